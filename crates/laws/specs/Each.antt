@@ -1,0 +1,42 @@
+-- An array stepped entry by entry, for any kind of entry: entries below i are stepped, the others are as they were.
+-- Assumes nothing.
+use mathlib.Core.Path.{_≡_, refl, sym, ap, _∙_}
+use mathlib.Core.List.{List, [], _∷_}
+use Prim.Native.Nat.{ℕ, zero, suc, _+_, _≤_, _<_}
+use native.Mathlib.Omega.{arith}
+use native.Mathlib.Numerals.{add-one}
+use native.Mathlib.Nat.{eq-or-lt-of-le, le-of-suc-le-suc, not-suc-le-zero}
+use mathlib.Core.Logic.{⊎-elim}
+use lib.ListN.{length, getD, set, length-set}
+use lib.Seq.{getD-set-same, getD-set-other}
+
+module _ {A : Type 0} (z : A) (f : ℕ → A → A) where
+  unfoldable pub eachTo : ℕ → List A → List A
+  eachTo zero l = l
+  eachTo (suc n) l = set (eachTo n l) n (f n (getD (eachTo n l) n z))
+
+  -- One turn of the loop that steps entry n.
+  pub each-next : (n : ℕ) (l q : List A) (r : A) → q ≡ eachTo n l → r ≡ f n (getD q n z) → set q n r ≡ eachTo (n + 1) l
+  unfolding eachTo
+  each-next n l q r e er = rw (add-one, er, e)
+
+  pub each-length : (n : ℕ) (l : List A) → length (eachTo n l) ≡ length l
+  unfolding eachTo
+  each-length zero l = refl
+  each-length (suc n) l = rw length-set (each-length n l)
+
+  -- Entries from n on are as they were.
+  pub each-above : (n : ℕ) (l : List A) (k : ℕ) → n ≤ k → getD (eachTo n l) k z ≡ getD l k z
+  unfolding eachTo
+  each-above zero l k h = refl
+  each-above (suc n) l k h = let ne : k ≡ n → ⊥ = λ e. omega arith in rw getD-set-other (each-above n l k (omega arith))
+
+  -- Each entry below n is the step of what it was.
+  pub each-below : (n : ℕ) (l : List A) (k : ℕ) → n ≤ length l → k < n → getD (eachTo n l) k z ≡ f k (getD l k z)
+  unfolding eachTo
+  each-below zero l k h q = absurd (not-suc-le-zero q)
+  each-below (suc n) l k h q =
+      ⊎-elim
+      (λ (e : k ≡ n). let lt : n < length (eachTo n l) = rw (each-length n l) (omega arith) in rw (e, getD-set-same) (ap (f n) (each-above n l n (omega arith))))
+      (λ (lt : k < n). let ne : k ≡ n → ⊥ = λ e. omega arith in rw getD-set-other (each-below n l k (omega arith) lt))
+      (eq-or-lt-of-le (le-of-suc-le-suc q))

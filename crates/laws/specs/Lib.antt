@@ -1,0 +1,5 @@
+pub mod Bits
+pub mod Each
+pub mod Latest
+pub mod Tests
+pub mod Unique

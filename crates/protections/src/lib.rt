@@ -1,0 +1,71 @@
+// Document 01's table of the eight protections: what each looks at, which way it trips, its mode number.
+ghost use mathlib.Core.Path.{_≡_};
+ghost use Rattle.protections.specs.Table.{rowWith, rowAt};
+use units::ProtectionNo;
+
+// How many protections a page and a pack state hold.
+pub const PROTECTIONS: usize = 8;
+
+// What a protection looks at in a sample.
+pub enum Quantity {
+    HighestCell,
+    LowestCell,
+    Current,
+    Temperature1,
+    Temperature2,
+}
+
+// A protection trips at or above its trip level, or at or below it.
+pub enum Direction {
+    Above,
+    Below,
+}
+
+// The number that a raised protection gives command 0x41, if it has one.
+pub enum Mode {
+    Silent,
+    Number(u8),
+}
+
+// What a page says of one protection: levels in the sample's unit (mV, mA, tenths of a kelvin), the two run lengths, the switch mask.
+pub struct Limits {
+    pub trip: i32,
+    pub release: i32,
+    pub n: u8,
+    pub m: u8,
+    pub mask: u8,
+}
+
+// A row of the table.
+pub struct Row {
+    pub quantity: Quantity,
+    pub direction: Direction,
+    pub mode: Mode,
+}
+
+fn entry(quantity: Quantity, direction: Direction, mode: Mode) -> Row
+    ensures { λ r. ⌜ r ≡ rowWith quantity direction mode ⌝ }
+{
+    Row {
+        quantity: quantity,
+        direction: direction,
+        mode: mode,
+    }
+}
+
+// The row of protection p. A number past the table reads as its last row.
+pub fn row_of(p: ProtectionNo) -> Row
+    ensures { λ r. ⌜ r ≡ rowAt (p .0) ⌝ }
+{
+    let k = p.0;
+    match k {
+        0 => entry(Quantity::HighestCell, Direction::Above, Mode::Number(0x15)),
+        1 => entry(Quantity::LowestCell, Direction::Below, Mode::Silent),
+        2 => entry(Quantity::Current, Direction::Above, Mode::Number(0x12)),
+        3 => entry(Quantity::Current, Direction::Below, Mode::Number(0x13)),
+        4 => entry(Quantity::Current, Direction::Below, Mode::Number(0x14)),
+        5 => entry(Quantity::Temperature1, Direction::Above, Mode::Number(0x10)),
+        6 => entry(Quantity::Temperature1, Direction::Above, Mode::Number(0x11)),
+        _ => entry(Quantity::Temperature2, Direction::Above, Mode::Number(0x16)),
+    }
+}
