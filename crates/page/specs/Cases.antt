@@ -1,0 +1,187 @@
+-- Pages worked by hand: the verdict on each is the one that document 01 asks for.
+-- Assumes nothing.
+use mathlib.Core.Path.{_≡_, refl, sym, ap₂, _∙_}
+use mathlib.Core.Bool.{Bool, true, false, _&&_, true≢false}
+use mathlib.Core.List.{List, [], _∷_, _++_}
+use Prim.Native.Nat.{ℕ}
+use native.Mathlib.Omega.{arith}
+use borrow.Author.Tests.{eqb-true, eq-eqb}
+use lib.Dec.{eqb}
+use lib.ListN.{length, getD, take, set, length-set}
+use lib.Seq.{getD-set-same, getD-set-other, take-set-le}
+use Rattle.laws.specs.Tests.{and-left, and-right}
+use Rattle.units.specs.Signed.{signedOf}
+use Rattle.crc.specs.CheckByte.{timesX, timesXs, withByte, remainder, checkByte}
+use Rattle.protections.specs.Table.{rowAt, table}
+use Rattle.page.specs.Page.{wordAt, within, degreesFit, levelFits, levelOf, refusals, judged}
+use Rattle.page.specs.Walk.{reservedMet, rangeMet, wordOfMet, levelMet, orderedAt, orderMet, met, lowestFrom, lowestFault, faultsOf, judged-is}
+use Rattle.page.specs.Swapped.{swapped}
+use Rattle.page.specs.Worked.{workedPage, put, minus, Change, changed, sealed, pageWith}
+use Rattle.page.specs.declared.Verdict.{Verdict}
+use Rattle.page.specs.declared.Verdict.the-variants.{Accepted, Refused}
+
+-- Whether two verdicts are the same.
+abbrev agree : Verdict → Verdict → Bool
+agree Accepted Accepted = true
+agree Accepted (Refused j v) = false
+agree (Refused k w) Accepted = false
+agree (Refused k w) (Refused j v) = eqb k j && eqb w v
+
+agree-same : (x y : Verdict) → agree x y ≡ true → x ≡ y
+agree-same Accepted Accepted e = refl
+agree-same Accepted (Refused j v) e = absurd (true≢false (sym e))
+agree-same (Refused k w) Accepted e = absurd (true≢false (sym e))
+agree-same (Refused k w) (Refused j v) e =
+    ap₂ Refused (eqb-true k j (and-left (eqb k j) (eqb w v) e)) (eqb-true w v (and-right (eqb k j) (eqb w v) e))
+
+-- ---- pages as they stand
+
+record Page : Type 0 where
+  bytes : List ℕ
+  verdict : Verdict
+
+abbrev page : List ℕ → Verdict → Page
+page b v = record { bytes = b; verdict = v }
+
+abbrev one : ℕ → ℕ → List Change
+one w x = put w x ∷ []
+
+unfoldable pages : List Page
+pages =
+    page workedPage Accepted
+    ∷ page [] (Refused 1 0)
+    ∷ page (take 127 workedPage) (Refused 1 0)
+    ∷ page (workedPage ++ 0 ∷ []) (Refused 1 0)
+    ∷ page (swapped workedPage) (Refused 2 0)  -- it begins 17 A4
+    ∷ page (changed workedPage (one 0 0xA417)) (Refused 2 0)
+    ∷ page (pageWith (one 0 0x17A5)) (Refused 3 0)
+    ∷ page (set workedPage 127 0) (Refused 4 0)
+    ∷ page (changed workedPage (one 9 1)) (Refused 4 0)  -- 4 before 5
+    ∷ []
+
+abbrev allJudged : List Page → Bool
+allJudged [] = true
+allJudged (c ∷ cs) = agree (judged (c .bytes)) (c .verdict) && allJudged cs
+
+pages-judged : allJudged pages ≡ true
+unfolding pages judged refusals wordAt within degreesFit levelFits levelOf signedOf rowAt table checkByte remainder withByte timesXs timesX
+pages-judged = refl
+
+-- ---- words of the worked page changed, and its check byte made to fit
+
+record Case : Type 0 where
+  changes : List Change
+  verdict : Verdict
+
+abbrev taken : List Change → Case
+taken cs = record { changes = cs; verdict = Accepted }
+
+abbrev refused : ℕ → ℕ → List Change → Case
+refused k w cs = record { changes = cs; verdict = Refused k w }
+
+unfoldable cases : List Case
+cases =
+    -- 5: each reserved word, and byte 126
+    refused 5 9 (one 9 1)
+    ∷ refused 5 15 (one 15 0x8000)
+    ∷ refused 5 56 (one 56 1)
+    ∷ refused 5 62 (one 62 1)
+    ∷ refused 5 63 (one 63 1)
+    ∷ refused 5 62 (put 1 11 ∷ put 62 1 ∷ [])  -- 5 before 6
+    ∷ refused 5 9 (put 63 1 ∷ put 62 1 ∷ put 9 1 ∷ [])  -- the lowest word
+    -- 6: both ends of words 1 to 8
+    ∷ taken (put 1 2 ∷ put 2 1 ∷ put 3 1 ∷ put 4 0 ∷ put 5 1 ∷ put 6 1 ∷ put 7 0 ∷ put 8 0 ∷ [])
+    ∷ taken (put 1 10 ∷ put 2 5 ∷ put 3 240 ∷ put 4 6000 ∷ put 5 6000 ∷ put 6 32767 ∷ put 7 6000 ∷ put 8 32767 ∷ [])
+    ∷ refused 6 1 (one 1 1)
+    ∷ refused 6 1 (one 1 11)
+    ∷ refused 6 2 (one 2 0)
+    ∷ refused 6 2 (one 2 6)
+    ∷ refused 6 3 (one 3 0)
+    ∷ refused 6 3 (one 3 241)
+    ∷ refused 6 4 (one 4 6001)
+    ∷ refused 6 5 (one 5 0)
+    ∷ refused 6 5 (one 5 6001)
+    ∷ refused 6 6 (one 6 0)
+    ∷ refused 6 6 (one 6 32768)
+    ∷ refused 6 7 (one 7 6001)
+    ∷ refused 6 8 (one 8 32768)
+    ∷ refused 6 8 (put 8 40000 ∷ put 16 6001 ∷ [])  -- 6 before 7
+    -- 7: both ends of the levels, N, M and mask
+    ∷ taken (put 16 6000 ∷ put 17 0 ∷ put 18 1 ∷ put 19 1 ∷ put 20 0 ∷ [])
+    ∷ taken (put 21 0 ∷ put 22 6000 ∷ put 23 240 ∷ put 24 240 ∷ put 25 3 ∷ [])
+    ∷ refused 7 16 (one 16 0x9A10)  -- 4250 read backwards
+    ∷ refused 7 16 (one 16 6001)
+    ∷ refused 7 22 (one 22 6001)
+    ∷ refused 7 18 (one 18 0)
+    ∷ refused 7 18 (one 18 241)
+    ∷ refused 7 54 (one 54 0)
+    ∷ refused 7 54 (one 54 241)
+    ∷ refused 7 55 (one 55 4)
+    ∷ taken (put 26 1 ∷ put 27 (minus 1) ∷ put 31 (minus 32768) ∷ put 32 1 ∷ put 36 (minus 32768) ∷ put 37 (minus 1) ∷ [])
+    ∷ taken (put 26 32767 ∷ put 27 (minus 32768) ∷ put 31 (minus 1) ∷ put 32 32767 ∷ [])
+    ∷ taken (put 41 120 ∷ put 42 (minus 40) ∷ put 46 120 ∷ put 47 (minus 40) ∷ put 51 (minus 39) ∷ put 52 (minus 40) ∷ [])
+    ∷ refused 7 41 (one 41 121)
+    ∷ refused 7 42 (one 42 (minus 41))
+    ∷ refused 7 46 (one 46 121)
+    ∷ refused 7 52 (one 52 (minus 41))
+    ∷ refused 7 55 (put 16 4150 ∷ put 55 4 ∷ [])  -- 7 before 8
+    -- 8: equal levels, and levels the other way round, in each direction
+    ∷ refused 8 16 (one 16 4150)
+    ∷ refused 8 16 (put 16 4150 ∷ put 17 4250 ∷ [])
+    ∷ refused 8 21 (one 21 2600)
+    ∷ refused 8 21 (one 21 2601)
+    ∷ refused 8 26 (put 26 (minus 1) ∷ put 27 1 ∷ [])
+    ∷ refused 8 31 (one 31 (minus 4000))
+    ∷ refused 8 36 (put 36 1 ∷ put 37 (minus 1) ∷ [])
+    ∷ refused 8 41 (one 41 40)
+    ∷ refused 8 46 (put 46 (minus 1) ∷ put 47 0 ∷ [])
+    ∷ refused 8 51 (one 51 70)
+    ∷ refused 8 26 (put 51 70 ∷ put 26 2500 ∷ [])  -- the lowest word
+    ∷ []
+
+-- A page with the right length, mark and check byte is judged by rows 5 to 8.
+sealed-mark : (b : List ℕ) (x : ℕ) → wordAt (set b 127 x) 0 ≡ wordAt b 0
+unfolding wordAt
+sealed-mark b x = rw (getD-set-other b 127 0 x 0 (λ e. omega arith), getD-set-other b 127 1 x 0 (λ e. omega arith))
+
+sealed-judged : (b : List ℕ) → length b ≡ 128 → wordAt b 0 ≡ 0x17A4 → judged (sealed b) ≡ faultsOf (sealed b)
+sealed-judged b h m =
+    let x = checkByte (take 127 b) in
+    let size : length (set b 127 x) ≡ 128 = length-set b 127 x ∙ h in
+    let check : getD (set b 127 x) 127 0 ≡ x = getD-set-same b 127 x 0 (omega arith) in
+    let before : take 127 (set b 127 x) ≡ take 127 b = take-set-le 127 b 127 x (omega arith) in
+    rw (judged-is, size, sealed-mark b x, m, check, before, eq-eqb x x refl)
+
+abbrev fits : Case → Bool
+fits c =
+    let b = changed workedPage (c .changes) in
+    eqb (length b) 128 && (eqb (wordAt b 0) 0x17A4 && agree (faultsOf (sealed b)) (c .verdict))
+
+abbrev allFit : List Case → Bool
+allFit [] = true
+allFit (c ∷ cs) = fits c && allFit cs
+
+cases-fit : allFit cases ≡ true
+unfolding cases faultsOf lowestFault lowestFrom met reservedMet rangeMet levelMet wordOfMet orderMet orderedAt wordAt within degreesFit levelFits levelOf signedOf rowAt table
+cases-fit = refl
+
+abbrev AllJudged : List Case → Type 0
+AllJudged [] = Unit {0}
+AllJudged (c ∷ cs) = (judged (pageWith (c .changes)) ≡ c .verdict) × AllJudged cs
+
+fit-judged : (c : Case) → fits c ≡ true → judged (pageWith (c .changes)) ≡ c .verdict
+fit-judged c e =
+    let b = changed workedPage (c .changes) in
+    let rest = and-right (eqb (length b) 128) (eqb (wordAt b 0) 0x17A4 && agree (faultsOf (sealed b)) (c .verdict)) e in
+    let h = eqb-true (length b) 128 (and-left (eqb (length b) 128) (eqb (wordAt b 0) 0x17A4 && agree (faultsOf (sealed b)) (c .verdict)) e) in
+    let m = eqb-true (wordAt b 0) 0x17A4 (and-left (eqb (wordAt b 0) 0x17A4) (agree (faultsOf (sealed b)) (c .verdict)) rest) in
+    sealed-judged b h m
+    ∙ agree-same (faultsOf (sealed b)) (c .verdict) (and-right (eqb (wordAt b 0) 0x17A4) (agree (faultsOf (sealed b)) (c .verdict)) rest)
+
+all-judged : (cs : List Case) → allFit cs ≡ true → AllJudged cs
+all-judged [] e = tt
+all-judged (c ∷ cs) e = (fit-judged c (and-left (fits c) (allFit cs) e), all-judged cs (and-right (fits c) (allFit cs) e))
+
+-- Each of the cases has the verdict that stands beside it.
+cases-judged : AllJudged cases
+cases-judged = all-judged cases cases-fit

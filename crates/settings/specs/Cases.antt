@@ -1,0 +1,76 @@
+-- What the worked page says, and document 01's degrees, computed from the definitions.
+-- Assumes nothing.
+use mathlib.Core.Path.{_≡_, refl}
+use mathlib.Core.List.{List, [], _∷_}
+use Prim.Native.Nat.{ℕ}
+use lib.IntN.{ℤ, pos, negsuc}
+use Rattle.units.specs.Signed.{signedOf}
+use Rattle.crc.specs.CheckByte.{timesX, timesXs, withByte, remainder, checkByte}
+use Rattle.protections.specs.Table.{rowAt, table}
+use Rattle.protections.specs.declared.Limits.{Limits}
+use Rattle.protections.specs.declared.Direction.the-variants.{Above, Below}
+use Rattle.protections.specs.declared.Quantity.the-variants.{HighestCell, LowestCell, Current, Temperature1, Temperature2}
+use Rattle.page.specs.Page.{wordAt, within, degreesFit, levelFits, levelOf, refusals, judged}
+use Rattle.page.specs.Worked.{workedPage, minus}
+use Rattle.page.specs.declared.Verdict.the-variants.{Accepted, Refused}
+use Rattle.settings.specs.declared.Settings.{Settings}
+use Rattle.settings.specs.Settings.{inDegrees, tripLevel, releaseLevel, limitsAt, limitsOf, settingsOf, noSettings, loadedOf}
+
+-- ---- levels
+
+abbrev levels : List ℤ
+levels =
+    tripLevel Temperature1 Above 25
+    ∷ releaseLevel Temperature1 Above 25
+    ∷ tripLevel Temperature2 Above (minus 40)
+    ∷ releaseLevel Temperature2 Above (minus 40)
+    ∷ tripLevel Temperature1 Below 120
+    ∷ releaseLevel Temperature1 Below 120
+    ∷ tripLevel HighestCell Above 4250
+    ∷ releaseLevel LowestCell Below 2600
+    ∷ tripLevel Current Below (minus 32768)
+    ∷ releaseLevel Current Below (minus 1)
+    ∷ []
+
+-- 25 °C is 2980, -40 °C is 2330, 120 °C is 3930; cells are mV as they stand, currents signed.
+levels-are : levels
+    ≡ pos 2980 ∷ pos 2980 ∷ pos 2330 ∷ pos 2330 ∷ pos 3930 ∷ pos 3930 ∷ pos 4250 ∷ pos 2600 ∷ negsuc 32767 ∷ negsuc 0 ∷ []
+unfolding tripLevel releaseLevel inDegrees levelOf signedOf
+levels-are = refl
+
+-- ---- the worked page
+
+abbrev pub limits : ℤ → ℤ → ℕ → Limits
+limits trip release mask = record { trip = trip; release = release; n = 2; m = 2; mask = mask }
+
+abbrev pub worked : Settings
+worked =
+    record {
+      n = 2;
+      k = 1;
+      r = 4;
+      floor = record { 0 = 3900 };
+      difference = record { 0 = 10 };
+      detection = pos 100;
+      voltage = record { 0 = 4200 };
+      current = pos 1000;
+      limits =
+          limits (pos 4250) (pos 4150) 1
+          ∷ limits (pos 2500) (pos 2600) 2
+          ∷ limits (pos 3000) (pos 2500) 1
+          ∷ limits (negsuc 4999) (negsuc 3999) 2
+          ∷ limits (negsuc 19999) (negsuc 99) 3
+          ∷ limits (pos 3180) (pos 3130) 1
+          ∷ limits (pos 3330) (pos 3280) 2
+          ∷ limits (pos 3530) (pos 3430) 3
+          ∷ [];
+    }
+
+pub worked-loaded : loadedOf workedPage ≡ record { verdict = Accepted; settings = worked }
+unfolding loadedOf settingsOf limitsOf limitsAt tripLevel releaseLevel inDegrees levelOf signedOf judged refusals wordAt within degreesFit levelFits rowAt table checkByte remainder withByte timesXs timesX
+worked-loaded = refl
+
+-- A refused page says nothing.
+none-loaded : loadedOf [] ≡ record { verdict = Refused 1 0; settings = noSettings }
+unfolding loadedOf settingsOf judged refusals wordAt within degreesFit levelFits levelOf signedOf rowAt table checkByte remainder
+none-loaded = refl
