@@ -15,6 +15,10 @@ extern "C" {
  * no final change. Of no bytes it is 0. */
 uint32_t keeper_check_byte(const uint8_t *bytes, size_t length);
 
+/* The judge of a settings page of any length: 0 if it is accepted, else the refusal's number times 256 plus the word at
+ * fault. Numbers 1 to 4 name word 0; 5 to 8 name the lowest word at fault, for 8 the trip word. */
+uint32_t keeper_judge_page(const uint8_t *page, size_t length);
+
 #ifdef __cplusplus
 }
 #endif

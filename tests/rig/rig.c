@@ -1,5 +1,6 @@
 /* The bench rig's test: calls the proved functions from C and compares with what others worked out.
- * rig VECTORS: a file of lines 'check-byte message', both in hexadecimal, '-' for the empty message. */
+ * rig VECTORS PAGES: files of lines 'answer bytes', the bytes in hexadecimal, '-' for none. In VECTORS the answer is a check byte
+ * in hexadecimal, in PAGES what the judge answers, in decimal. */
 #include "keeper.h"
 
 #include <stdio.h>
@@ -59,24 +60,35 @@ static void published(void)
     ends("published check bytes");
 }
 
-static void vectors(const char *name)
+/* A page with its byte pairs swapped is refused with 2, and a null page with 1. */
+static void swapped(void)
+{
+    static uint8_t page[128] = { 0x17, 0xA4 };
+    expect("a page that begins 17 A4", keeper_judge_page(page, 128), 2 * 256);
+    expect("a page of 127 bytes", keeper_judge_page(page, 127), 1 * 256);
+    expect("a null page of length 0", keeper_judge_page(NULL, 0), 1 * 256);
+    ends("pages worked by hand");
+}
+
+/* Compares a function's answers with those of a file. */
+static void compare(const char *name, const char *line, uint32_t (*function)(const uint8_t *, size_t))
 {
     static char word[2 * LONGEST + 2];
-    static uint8_t message[LONGEST];
-    unsigned check;
+    static uint8_t bytes[LONGEST];
+    unsigned answer;
     FILE *file = fopen(name, "r");
     if (file == NULL) {
         perror(name);
     } else {
-        while (fscanf(file, "%2x %8192s", &check, word) == 2) {
-            long n = bytes_of(word, message);
+        while (fscanf(file, line, &answer, word) == 2) {
+            long n = bytes_of(word, bytes);
             if (n < 0)
-                expect("a message in hexadecimal", 0, 1);
+                expect("bytes in hexadecimal", 0, 1);
             else
-                expect(word, keeper_check_byte(message, (size_t)n), check);
+                expect(word, function(bytes, (size_t)n), answer);
         }
         if (!feof(file))
-            expect("a line 'check-byte message'", 0, 1);
+            expect("a line 'answer bytes'", 0, 1);
         fclose(file);
     }
     ends(name);
@@ -84,12 +96,14 @@ static void vectors(const char *name)
 
 int main(int count, char **words)
 {
-    if (count != 2) {
-        fprintf(stderr, "usage: rig VECTORS\n");
+    if (count != 3) {
+        fprintf(stderr, "usage: rig VECTORS PAGES\n");
         return 2;
     }
     published();
-    vectors(words[1]);
+    swapped();
+    compare(words[1], "%2x %8192s", keeper_check_byte);
+    compare(words[2], "%u %8192s", keeper_judge_page);
     printf("%u passed, %u failed\n", passed, failed);
     return failed != 0;
 }
