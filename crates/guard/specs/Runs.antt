@@ -1,0 +1,120 @@
+-- The run rule of document 01, "The eight protections", once for any two tests of a sample that are never both true.
+-- A history is the list of accepted samples since the load, the latest first.
+-- Assumes nothing.
+use mathlib.Core.Path.{_≡_, refl, sym, ap, _∙_}
+use mathlib.Core.Bool.{Bool, true, false, not, cond, true≢false}
+use mathlib.Core.List.{List, [], _∷_}
+use Prim.Native.Nat.{ℕ, suc, _+_, _≤_, _<_}
+use native.Mathlib.Numerals.{add-one}
+use native.Mathlib.Omega.{arith}
+use lib.Dec.{leb}
+use borrow.Author.Tests.{lt-leb, leb-false, not-true}
+use Rattle.laws.specs.Tests.{by-test, clash}
+use Rattle.laws.specs.Latest.{lastAll, run, lastAll-run}
+use Rattle.guard.specs.declared.Alarm.{Alarm}
+use Rattle.guard.specs.declared.Alarm.the-variants.{Clear, Raised}
+
+abbrev pub isRaised : Alarm → Bool
+isRaised (Clear run) = false
+isRaised (Raised run) = true
+
+abbrev pub runOf : Alarm → ℕ
+runOf (Clear run) = run
+runOf (Raised run) = run
+
+-- While clear the run is below N, while raised below M.
+abbrev pub RunWithin : ℕ → ℕ → Alarm → Type 0
+RunWithin N M (Clear run) = run < N
+RunWithin N M (Raised run) = run < M
+
+pub run-most : (N M most : ℕ) (a : Alarm) → N ≤ most → M ≤ most → RunWithin N M a → runOf a < most
+run-most N M most (Clear run) n m w = omega arith
+run-most N M most (Raised run) n m w = omega arith
+
+-- A run, one sample on: one longer if the sample counts, else none.
+abbrev pub runOn : Bool → ℕ → ℕ
+runOn counts run = cond counts (run + 1) 0
+
+-- One sample on, by counting: a run of N tripping samples raises, a run of M releasing samples releases.
+abbrev pub nextAlarm : ℕ → ℕ → Bool → Bool → Alarm → Alarm
+nextAlarm N M trip qualify (Clear run) = cond (leb N (runOn trip run)) (Raised 0) (Clear (runOn trip run))
+nextAlarm N M trip qualify (Raised run) = cond (leb M (runOn qualify run)) (Clear 0) (Raised (runOn qualify run))
+
+module _ {S : Type 0} (N M : ℕ) (trips qualifies : S → Bool) where
+  -- "Clear: it is raised at a sample if the last N accepted samples, this one included, all trip. Raised: it is released
+  -- if the last M accepted samples all meet the release condition. Only samples since the load count."
+  abbrev pub raised : List S → Bool
+  raised [] = false
+  raised (s ∷ h) = cond (raised h) (not (lastAll M qualifies (s ∷ h))) (lastAll N trips (s ∷ h))
+
+  -- "Each protection is either clear, with its run of tripping samples, or raised, with its run of releasing samples."
+  abbrev pub alarmOf : List S → Alarm
+  alarmOf h = cond (raised h) (Raised (run qualifies h)) (Clear (run trips h))
+
+  -- A history stepped sample by sample from the load.
+  abbrev pub alarmAfter : List S → Alarm
+  alarmAfter [] = Clear 0
+  alarmAfter (s ∷ h) = nextAlarm N M (trips s) (qualifies s) (alarmAfter h)
+
+  pub alarm-raised : (h : List S) → isRaised (alarmOf h) ≡ raised h
+  alarm-raised h = by-test (raised h) (λ e. rw e) (λ e. rw e)
+
+  alarm-none : (h : List S) → run trips h ≡ 0 → run qualifies h ≡ 0 → runOf (alarmOf h) ≡ 0
+  alarm-none h t q = by-test (raised h) (λ e. rw e q) (λ e. rw e t)
+
+  module _ (n-least : 1 ≤ N) (m-least : 1 ≤ M) (never : (s : S) → trips s ≡ true → qualifies s ≡ false) where
+    never′ : (s : S) → qualifies s ≡ true → trips s ≡ false
+    never′ s q = by-test (trips s) (λ t. clash q (never s t)) (λ t. t)
+
+    -- THE RUN RULE: one step on from what a history says is what the longer history says.
+    pub alarm-step : (s : S) (h : List S) → nextAlarm N M (trips s) (qualifies s) (alarmOf h) ≡ alarmOf (s ∷ h)
+    alarm-step s h =
+        by-test (raised h)
+        (λ e. rw (e, lastAll-run) (by-test (qualifies s)
+        (λ q. rw (q, add-one) (by-test (leb M (suc (run qualifies h))) (λ u. rw (u, never′ s q)) (λ u. rw u)))
+        (λ q. rw (q, lt-leb M 0 m-least))))
+        (λ e. rw (e, lastAll-run) (by-test (trips s)
+        (λ t. rw (t, add-one) (by-test (leb N (suc (run trips h))) (λ u. rw (u, never s t)) (λ u. rw u)))
+        (λ t. rw (t, lt-leb N 0 n-least))))
+
+    -- After any history the stepped alarm is what the history says, its run included.
+    pub alarm-is : (h : List S) → alarmAfter h ≡ alarmOf h
+    alarm-is [] = refl
+    alarm-is (s ∷ h) = ap (nextAlarm N M (trips s) (qualifies s)) (alarm-is h) ∙ alarm-step s h
+
+    -- It is raised exactly if the history says so.
+    pub raised-is : (h : List S) → isRaised (alarmAfter h) ≡ raised h
+    raised-is h = ap isRaised (alarm-is h) ∙ alarm-raised h
+
+    clear-within : (h : List S) → raised h ≡ false → run trips h < N
+    clear-within [] e = n-least
+    clear-within (s ∷ h) e =
+        by-test (raised h)
+        (λ u. by-test (qualifies s)
+        (λ q. rw (never′ s q) n-least)
+        (λ q. absurd (true≢false (rw (u, lastAll-run, q, lt-leb M 0 m-least) at e))))
+        (λ u. leb-false N (run trips (s ∷ h)) (sym (lastAll-run N trips (s ∷ h)) ∙ rw u at e))
+
+    raised-within : (h : List S) → raised h ≡ true → run qualifies h < M
+    raised-within [] e = absurd (true≢false (sym e))
+    raised-within (s ∷ h) e =
+        by-test (raised h)
+        (λ u. leb-false M (run qualifies (s ∷ h)) (sym (lastAll-run M qualifies (s ∷ h)) ∙ not-true (lastAll M qualifies (s ∷ h)) (rw u at e)))
+        (λ u. by-test (trips s)
+        (λ t. rw (never s t) m-least)
+        (λ t. absurd (true≢false (sym (rw (u, lastAll-run, t, lt-leb N 0 n-least) at e)))))
+
+    -- No run leaves its type, however long the history is: it stays below N while clear, below M while raised.
+    pub alarm-within : (h : List S) → RunWithin N M (alarmOf h)
+    alarm-within h = by-test (raised h) (λ e. rw e (raised-within h e)) (λ e. rw e (clear-within h e))
+
+    -- A sample that neither trips nor qualifies ends both runs, and neither raises nor releases.
+    pub neither-ends : (s : S) (h : List S) → trips s ≡ false → qualifies s ≡ false
+        → (raised (s ∷ h) ≡ raised h) × (runOf (alarmOf (s ∷ h)) ≡ 0)
+    neither-ends s h t q = (stays, alarm-none (s ∷ h) (rw t) (rw q))
+      where
+        stays : raised (s ∷ h) ≡ raised h
+        stays =
+            by-test (raised h)
+            (λ u. rw (u, lastAll-run, q, lt-leb M 0 m-least))
+            (λ u. rw (u, lastAll-run, t, lt-leb N 0 n-least))

@@ -1,0 +1,225 @@
+-- One protection and all of them, from the history and by the step, and the theorem that the two agree.
+-- Assumes nothing.
+use mathlib.Core.Path.{_≡_, refl, ap, _∙_}
+use mathlib.Core.Bool.{Bool, true, false, not}
+use mathlib.Core.List.{List, [], _∷_}
+use Prim.Native.Nat.{ℕ, _+_, _≤_, _<_}
+use native.Mathlib.Omega.{arith}
+use lib.IntN.{ℤ, pos}
+use lib.ListN.{length, getD, set}
+use Rattle.laws.specs.Latest.{lastAll}
+use Rattle.laws.specs.Each.{eachTo, each-next, each-above, each-below}
+use Rattle.protections.specs.declared.Direction.{Direction}
+use Rattle.protections.specs.declared.Limits.{Limits}
+use Rattle.protections.specs.declared.Row.{Row}
+use Rattle.protections.specs.Direction.{reaches, back, inOrder, never-both}
+use Rattle.protections.specs.Table.{rowAt, protections}
+use Rattle.guard.specs.declared.Sample.{Sample}
+use Rattle.guard.specs.declared.Extremes.{Extremes}
+use Rattle.guard.specs.declared.Protection.{Protection}
+use Rattle.guard.specs.declared.Alarm.{Alarm}
+use Rattle.guard.specs.declared.Alarm.the-variants.{Clear}
+use Rattle.guard.specs.Cells.{extremesOf}
+use Rattle.guard.specs.Measure.{measureWith, measure, trips, qualifies, between, between-neither}
+use Rattle.guard.specs.Numbered.{listOf, listOf-length, listOf-at, each-listOf}
+use Rattle.guard.specs.Runs as runs
+use Rattle.guard.specs.Runs.{nextAlarm, RunWithin}
+
+abbrev pub noLimits : Limits
+noLimits = record { trip = pos 0; release = pos 0; n = 0; m = 0; mask = 0 }
+
+abbrev pub noProtection : Protection
+noProtection = record { limits = noLimits; alarm = Clear 0 }
+
+-- What the page says of protection p.
+abbrev pub limitsAt : List Limits → ℕ → Limits
+limitsAt ls p = getD ls p noLimits
+
+-- ---- from the history
+
+-- Whether the protection of this row and these limits is raised after a history.
+unfoldable pub raised : Row → Limits → List Sample → Bool
+raised row l = runs.raised (l .n) (l .m) (trips row l) (qualifies row l)
+
+-- A clear protection is raised at a sample exactly if its last N all trip, this one included.
+pub raised-when : (row : Row) (l : Limits) (s : Sample) (h : List Sample) → raised row l h ≡ false
+    → raised row l (s ∷ h) ≡ lastAll (l .n) (trips row l) (s ∷ h)
+unfolding raised
+raised-when row l s h e = rw e
+
+-- A raised one is released at a sample exactly if its last M all qualify.
+pub released-when : (row : Row) (l : Limits) (s : Sample) (h : List Sample) → raised row l h ≡ true
+    → raised row l (s ∷ h) ≡ not (lastAll (l .m) (qualifies row l) (s ∷ h))
+unfolding raised
+released-when row l s h e = rw e
+
+-- The protection after a history: its limits, and its alarm with its run.
+unfoldable pub protectionOf : Row → Limits → List Sample → Protection
+protectionOf row l h = record { limits = l; alarm = runs.alarmOf (l .n) (l .m) (trips row l) (qualifies row l) h }
+
+-- Every protection after a history, as the page's limits say.
+unfoldable pub protectionsOf : List Limits → List Sample → List Protection
+protectionsOf ls h = listOf (λ p. protectionOf (rowAt p) (limitsAt ls p) h) protections
+
+-- ---- by the step
+
+-- One protection, one sample on.
+unfoldable pub stepOne : Direction → ℤ → Protection → Protection
+stepOne d value p =
+    record {
+      limits = p .limits;
+      alarm =
+          nextAlarm (p .limits .n) (p .limits .m) (reaches d (p .limits .trip) value) (reaches (back d) (p .limits .release) value)
+          (p .alarm);
+    }
+
+-- Protection p by its row of the table, if e are the sample's highest and lowest cell.
+unfoldable pub stepWith : Extremes → Sample → ℕ → Protection → Protection
+stepWith e s p = stepOne (rowAt p .direction) (measureWith e (rowAt p .quantity) s)
+
+-- Every protection, one sample on, if e are the sample's highest and lowest cell.
+unfoldable pub stepAllWith : Extremes → Sample → List Protection → List Protection
+stepAllWith e s = eachTo noProtection (stepWith e s) protections
+
+-- Every protection, one sample on.
+abbrev pub stepAll : Sample → List Protection → List Protection
+stepAll s = stepAllWith (extremesOf (s .cells) (s .count)) s
+
+-- The array stepped sample by sample from the load.
+abbrev pub protectionsAfter : List Limits → List Sample → List Protection
+protectionsAfter ls [] = protectionsOf ls []
+protectionsAfter ls (s ∷ h) = stepAll s (protectionsAfter ls h)
+
+-- A protection at the load: clear, with no run.
+unfoldable pub clear : Limits → Protection
+clear l = record { limits = l; alarm = Clear 0 }
+
+-- Protection p at the load, whatever stood in its place.
+unfoldable pub clearAt : List Limits → ℕ → Protection → Protection
+clearAt ls p old = clear (limitsAt ls p)
+
+-- The run is below the protection's N while it is clear, below its M while it is raised.
+abbrev pub Within : Protection → Type 0
+Within p = RunWithin (p .limits .n) (p .limits .m) (p .alarm)
+
+abbrev pub AllWithin : List Protection → Type 0
+AllWithin ps = (p : ℕ) → p < protections → Within (getD ps p noProtection)
+
+-- ---- what the loop over the protections needs
+
+-- The entry that is stepped next is as it was.
+pub within-next : (e : Extremes) (s : Sample) (ps out : List Protection) (i : ℕ) → out ≡ eachTo noProtection (stepWith e s) i ps
+    → AllWithin ps → i < protections → Within (getD out i noProtection)
+within-next e s ps out i q w h = rw (q, each-above noProtection (stepWith e s) i ps i (omega arith)) (w i h)
+
+-- One more protection at the load.
+pub clear-next : (ls : List Limits) (l out : List Protection) (i : ℕ) (r : Protection) → out ≡ eachTo noProtection (clearAt ls) i l
+    → r ≡ clear (limitsAt ls i) → set out i r ≡ eachTo noProtection (clearAt ls) (i + 1) l
+unfolding clearAt
+clear-next ls l out i r q e = each-next noProtection (clearAt ls) i l out r q e
+
+-- Once all are stepped.
+pub step-all-is : (e : Extremes) (s : Sample) (ps out : List Protection) (i : ℕ) → i ≡ protections
+    → out ≡ eachTo noProtection (stepWith e s) i ps → out ≡ stepAllWith e s ps
+unfolding stepAllWith
+step-all-is e s ps out i n q = rw (← n) q
+
+-- ---- what an accepted page says of its limits
+
+-- N and M are 1..240, the mask is 0..3, trip and release stand in the order of the direction.
+pub record GoodLimits (d : Direction) (l : Limits) : Type 0 where
+  pub n-least : 1 ≤ l .n
+  pub n-most : l .n ≤ 240
+  pub m-least : 1 ≤ l .m
+  pub m-most : l .m ≤ 240
+  pub mask-most : l .mask ≤ 3
+  pub ordered : inOrder d (l .trip) (l .release) ≡ true
+
+abbrev pub AllGood : List Limits → Type 0
+AllGood ls = (p : ℕ) → p < protections → GoodLimits (rowAt p .direction) (limitsAt ls p)
+
+-- ---- one protection of good limits
+
+module _ (row : Row) (l : Limits) (g : GoodLimits (row .direction) l) where
+  -- It never trips and qualifies at one sample.
+  pub never-at-once : (s : Sample) → trips row l s ≡ true → qualifies row l s ≡ false
+  never-at-once s = never-both (row .direction) (l .trip) (l .release) (measure (row .quantity) s) (g .ordered)
+
+  -- One step on from what a history says is what the longer history says.
+  pub protection-step : (s : Sample) (h : List Sample)
+      → stepOne (row .direction) (measure (row .quantity) s) (protectionOf row l h) ≡ protectionOf row l (s ∷ h)
+  unfolding stepOne protectionOf
+  protection-step s h =
+      ap (λ (a : Alarm). record { limits = l; alarm = a })
+      (runs.alarm-step (l .n) (l .m) (trips row l) (qualifies row l) (g .n-least) (g .m-least) never-at-once s h)
+
+  -- Its run stays below N or M, however long the history is.
+  pub protection-within : (h : List Sample) → Within (protectionOf row l h)
+  unfolding protectionOf
+  protection-within h = runs.alarm-within (l .n) (l .m) (trips row l) (qualifies row l) (g .n-least) (g .m-least) never-at-once h
+
+  -- So it is below 240, and fits its byte.
+  pub protection-run : (h : List Sample) → runs.runOf (protectionOf row l h .alarm) < 240
+  unfolding protectionOf
+  protection-run h =
+      runs.run-most (l .n) (l .m) 240 (runs.alarmOf (l .n) (l .m) (trips row l) (qualifies row l) h) (g .n-most) (g .m-most) (protection-within h)
+
+  -- A sample between the two levels ends both runs: whatever the history was, it stays clear or raised and its run is none.
+  pub between-ends : (s : Sample) (h : List Sample) → between (row .direction) (l .trip) (l .release) (measure (row .quantity) s) ≡ true
+      → (raised row l (s ∷ h) ≡ raised row l h) × (runs.runOf (protectionOf row l (s ∷ h) .alarm) ≡ 0)
+  unfolding raised protectionOf
+  between-ends s h b =
+      let e = between-neither (row .direction) (l .trip) (l .release) (measure (row .quantity) s) b in
+      runs.neither-ends (l .n) (l .m) (trips row l) (qualifies row l) (g .n-least) (g .m-least) never-at-once s h (e .0) (e .1)
+
+pub protection-raised : (row : Row) (l : Limits) (h : List Sample) → runs.isRaised (protectionOf row l h .alarm) ≡ raised row l h
+unfolding protectionOf raised
+protection-raised row l h = runs.alarm-raised (l .n) (l .m) (trips row l) (qualifies row l) h
+
+pub protection-limits : (row : Row) (l : Limits) (h : List Sample) → protectionOf row l h .limits ≡ l
+unfolding protectionOf
+protection-limits row l h = refl
+
+-- ---- all protections
+
+-- The step of the array is the step of each entry, all of them.
+pub step-all-each : (s : Sample) (ps : List Protection) → length ps ≡ protections → (p : ℕ) → p < protections
+    → getD (stepAll s ps) p noProtection ≡ stepOne (rowAt p .direction) (measure (rowAt p .quantity) s) (getD ps p noProtection)
+unfolding stepAllWith stepWith measure
+step-all-each s ps e p q = each-below noProtection (stepWith (extremesOf (s .cells) (s .count)) s) protections ps p (omega arith) q
+
+module _ (ls : List Limits) where
+  pub protections-length : (h : List Sample) → length (protectionsOf ls h) ≡ protections
+  unfolding protectionsOf
+  protections-length h = listOf-length (λ p. protectionOf (rowAt p) (limitsAt ls p) h) protections
+
+  -- Entry p is protection p after the history.
+  pub protections-at : (h : List Sample) (p : ℕ) → p < protections
+      → getD (protectionsOf ls h) p noProtection ≡ protectionOf (rowAt p) (limitsAt ls p) h
+  unfolding protectionsOf
+  protections-at h p q = listOf-at (λ p. protectionOf (rowAt p) (limitsAt ls p) h) protections p noProtection q
+
+  -- At the load, with no sample, every protection is clear with no run.
+  pub fresh-is : (l : List Protection) → length l ≡ protections → eachTo noProtection (clearAt ls) protections l ≡ protectionsOf ls []
+  unfolding protectionsOf protectionOf clearAt clear
+  fresh-is l e =
+      each-listOf noProtection (clearAt ls) (λ p. protectionOf (rowAt p) (limitsAt ls p) []) protections l e (λ p q. refl)
+
+module _ (ls : List Limits) (g : AllGood ls) where
+  -- The whole array, one sample on from what a history says, is what the longer history says.
+  pub protections-step : (s : Sample) (h : List Sample) → stepAll s (protectionsOf ls h) ≡ protectionsOf ls (s ∷ h)
+  unfolding stepAllWith stepWith protectionsOf measure
+  protections-step s h =
+      each-listOf noProtection (stepWith (extremesOf (s .cells) (s .count)) s) (λ p. protectionOf (rowAt p) (limitsAt ls p) (s ∷ h)) protections
+      (protectionsOf ls h) (protections-length ls h) (λ p q.
+      ap (stepWith (extremesOf (s .cells) (s .count)) s p) (protections-at ls h p q)
+      ∙ protection-step (rowAt p) (limitsAt ls p) (g p q) s h)
+
+  -- So the step may be taken after any history.
+  pub protections-within : (h : List Sample) → AllWithin (protectionsOf ls h)
+  protections-within h p q = rw (protections-at ls h p q) (protection-within (rowAt p) (limitsAt ls p) (g p q) h)
+
+  -- The load and then every sample of a history, stepped: the array is what the history says, each alarm with its run.
+  pub protections-is : (h : List Sample) → protectionsAfter ls h ≡ protectionsOf ls h
+  protections-is [] = refl
+  protections-is (s ∷ h) = ap (stepAll s) (protections-is h) ∙ protections-step s h
