@@ -1,0 +1,10 @@
+pub mod Balance
+pub mod Cases
+pub mod Demand
+pub mod History
+pub mod StepLaws
+pub mod Steps
+pub mod Walk
+pub mod WalkLaws
+pub mod Wants
+pub mod Word

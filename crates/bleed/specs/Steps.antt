@@ -1,0 +1,93 @@
+-- What the code works out at one sample, from words and run counters.
+-- Assumes nothing.
+use mathlib.Core.Path.{_≡_}
+use mathlib.Core.Bool.{Bool, true, not, cond, _&&_, _||_}
+use mathlib.Core.List.{List}
+use Prim.Native.Nat.{ℕ, zero, suc, _+_, _-_, _≤_}
+use lib.Dec.{leb, ltb}
+use lib.Count.{ones}
+use lib.ListN.{getD}
+use Rattle.units.specs.declared.MilliVolts.{MilliVolts}
+use Rattle.laws.specs.Bits.{hasBit}
+use Rattle.laws.specs.Each.{eachTo}
+use Rattle.bleed.specs.Wants.{wants}
+use Rattle.bleed.specs.Walk.{chosen}
+use Rattle.bleed.specs.Word.{inWord, withCellIf, wordOf, wordTo}
+
+-- A pack has at most ten cells: a larger number stands for ten.
+unfoldable pub tenAtMost : ℕ → ℕ
+tenAtMost n = cond (ltb n 10) n 10
+
+-- The millivolts of cell k, from an array whose first entry is cell 1.
+unfoldable pub cellOf : List MilliVolts → ℕ → ℕ
+cellOf cells k = getD cells (k - 1) (record { 0 = 0 }) .0
+
+-- The run counter of cell k, from an array whose first entry is cell 1's.
+unfoldable pub runOf : List ℕ → ℕ → ℕ
+runOf runs k = getD runs (k - 1) 0
+
+-- Which cells want at a sample: what a history of wishes holds of it.
+unfoldable pub wishes : Bool → Bool → ℕ → ℕ → ℕ → List MilliVolts → ℕ → Bool
+wishes charges raised floor difference lowest cells k = wants charges raised floor difference lowest (cellOf cells k)
+
+-- The word of the cells that want bleeding.
+unfoldable pub wantingWord : ℕ → Bool → Bool → ℕ → ℕ → ℕ → List MilliVolts → ℕ
+wantingWord n charges raised floor difference lowest cells =
+    wordTo (tenAtMost n) (wishes charges raised floor difference lowest cells)
+
+-- The run of bled samples of cell k has reached R.
+unfoldable pub rested : ℕ → List ℕ → ℕ → Bool
+rested R runs k = leb R (runOf runs k)
+
+-- The word of the cells that rest.
+unfoldable pub restingWord : ℕ → ℕ → List ℕ → ℕ
+restingWord n R runs = wordTo (tenAtMost n) (rested R runs)
+
+-- The cell after k, from n to 1.
+unfoldable pub nextCell : ℕ → ℕ → ℕ
+nextCell n k = cond (ltb k n) (k + 1) 1
+
+-- A run of bled samples goes on by one or ends; a byte holds it, and it is never over R, which is 240 at most.
+unfoldable pub nextRun : Bool → ℕ → ℕ
+nextRun bled run = cond bled (cond (ltb run 255) (run + 1) run) 0
+
+-- The run counters of the first m cells after a sample, and the others as they were: cell i + 1 has bit i and entry i.
+abbrev pub nextRunsTo : ℕ → ℕ → List ℕ → List ℕ
+nextRunsTo bled m runs = eachTo 0 (λ i run. nextRun (hasBit bled i) run) m runs
+
+-- The run counters of all ten cells after a sample.
+unfoldable pub nextRuns : ℕ → List ℕ → List ℕ
+nextRuns bled runs = nextRunsTo bled 10 runs
+
+-- The word of the walk's cells: which cells want and which rest are words too.
+unfoldable pub chosenWord : ℕ → ℕ → ℕ → ℕ → ℕ → ℕ
+chosenWord n K want rest start = wordOf (chosen n K (inWord want) (inWord rest) start)
+
+-- The start cell is a cell of the pack, which has ten at most.
+pub record CellOf (n k : ℕ) : Type 0 where
+  pub ten : n ≤ 10
+  pub first : 1 ≤ k
+  pub last : k ≤ n
+
+-- What is promised of the chosen word: it is the walk's, it has no more set bits than K, and no two neighbouring bits.
+pub record Chosen (n K want rest start word : ℕ) : Type 0 where
+  pub walked : word ≡ chosenWord n K want rest start
+  pub few : ones word ≤ K
+  pub apart : (i : ℕ) → hasBit word i ≡ true → hasBit word (i + 1) ≡ true → ⊥
+
+-- ---- the walk, one cell after the other
+
+-- A neighbour of cell k is taken: cell k - 1 has bit k - 2, cell k + 1 has bit k.
+unfoldable pub besideTaken : ℕ → ℕ → Bool
+besideTaken taken k = ltb 1 k && hasBit taken (k - 2) || hasBit taken k
+
+unfoldable pub mayTake : ℕ → ℕ → ℕ → ℕ → ℕ → Bool
+mayTake K want rest taken k = inWord want k && not (inWord rest k) && not (besideTaken taken k) && ltb (ones taken) K
+
+unfoldable pub takeOne : ℕ → ℕ → ℕ → ℕ → ℕ → ℕ
+takeOne K want rest taken k = withCellIf (mayTake K want rest taken k) taken k
+
+-- The word after the next j cells, from cell k on.
+unfoldable pub takeFrom : ℕ → ℕ → ℕ → ℕ → ℕ → ℕ → ℕ → ℕ
+takeFrom zero n K want rest k taken = taken
+takeFrom (suc j) n K want rest k taken = takeFrom j n K want rest (nextCell n k) (takeOne K want rest taken k)
