@@ -1,0 +1,26 @@
+-- `pack::fresh_pack` meets its contract. Assumes nothing.
+use Rattle.pack.specs.State.{freshPack}
+use borrow.Author.Needs.{needs}
+use Rattle.pack.proofs.fresh_pack.Statement.{statement}
+use Rattle.pack.proofs.fresh_pack.Tie as tie
+
+rules-of-requires : tie.Need-rules-of-requires
+rules-of-requires c κs = search needs
+
+fresh-requires : tie.Need-fresh-requires
+fresh-requires c κs = search needs
+
+fresh-balance-requires : tie.Need-fresh-balance-requires
+fresh-balance-requires c κs = search needs
+
+no-sample-requires : tie.Need-no-sample-requires
+no-sample-requires c κs = search needs
+
+returns : tie.Need-returns
+unfolding freshPack
+returns c = rw (c .no-sample .ensures, c .before .fresh-balance .ensures, c .before .before .fresh .ensures, c .before .before .before .before .rules-of .ensures)
+
+pub fresh-pack-spec : {M : Type 1} → statement M
+fresh-pack-spec =
+    tie.close
+    (tie.spec rules-of-requires fresh-requires fresh-balance-requires no-sample-requires returns)

@@ -1,0 +1,39 @@
+-- `pack::offer` meets its contract. Assumes nothing.
+use mathlib.Core.Path.{sym, _∙_}
+use Rattle.pack.specs.Calls.{kept-ready, offer-accepted, offer-refused}
+use borrow.Author.Needs.{needs}
+use Rattle.pack.proofs.offer.Statement.{statement}
+use Rattle.pack.proofs.offer.Tie as tie
+
+sample-verdict-requires : tie.Need-sample-verdict-requires
+sample-verdict-requires c κs = search needs
+
+enum-told : tie.Need-enum-told
+enum-told c = search needs
+
+trim-requires : tie.Need-trim-requires
+trim-requires c κs = search needs
+
+accept-requires : tie.Need-accept-requires
+accept-requires c κs = kept-ready _ _ (c .before .before .before .before .before .pre) (sym (c .before .before .before .sample-verdict .ensures) ∙ c .before .enum-told .given .1)
+
+enum-told-2 : tie.Need-enum-told-2
+enum-told-2 c = search needs
+
+returns : tie.Need-returns
+returns c = offer-accepted _ (c .before .before .before .before .before .before .pre) _ _ _ _ (c .before .before .before .before .sample-verdict .ensures) (c .before .before .enum-told .given .1) (c .before .trim .ensures) (c .accept .ensures)
+
+returns-2 : tie.Need-returns-2
+returns-2 c = offer-refused _ (c .before .before .before .before .pre) _ _ _ _ (c .before .before .sample-verdict .ensures) (c .enum-told2 .given .1)
+
+pub offer-spec : {M : Type 1} → statement M
+offer-spec =
+    tie.close
+    (tie.spec
+    sample-verdict-requires
+    enum-told
+    trim-requires
+    accept-requires
+    enum-told-2
+    returns
+    returns-2)

@@ -1,0 +1,131 @@
+-- Each call leads from the state after some events to the state after one event more, and hands on that it stands for them.
+-- Assumes nothing.
+use mathlib.Core.Path.{_≡_, refl, sym, ap, _∙_}
+use mathlib.Core.Bool.{Bool, true, false, cond}
+use mathlib.Core.List.{List, [], _∷_}
+use Prim.Native.Nat.{ℕ, zero, suc, _%_, _≤_, _<_}
+use native.Mathlib.Omega.{arith}
+use native.Mathlib.Nat.{zero-lt-suc, mod-eq-of-lt}
+use Rattle.laws.specs.Tests.{by-test, clash}
+use Rattle.page.specs.Page.{judged}
+use Rattle.page.specs.declared.Verdict.{Verdict}
+use Rattle.page.specs.declared.Verdict.the-variants.{Accepted, Refused}
+use Rattle.guard.specs.declared.Sample.{Sample}
+use Rattle.samples.specs.Samples.{sampleVerdict, commandVerdict, trimmed, sample-none, command-most}
+use Rattle.settings.specs.declared.Settings.{Settings}
+use Rattle.settings.specs.declared.Loaded.{Loaded}
+use Rattle.settings.specs.Settings.{settingsOf, noSettings, loadedOf, loadedWith}
+use Rattle.settings.specs.Good.{Good, accepted-good}
+use Rattle.pack.specs.declared.Pack.{Pack}
+use Rattle.pack.specs.declared.Answered.{Answered}
+use Rattle.pack.specs.Events.{Event, offer, command, Past, past, accepts, withEvent, pastOf}
+use Rattle.pack.specs.State.{stateOf, freshPack, acceptedPack, Ready, answered, offered, withCommand, commanded}
+use Rattle.pack.specs.Kept.{pageOf, pastAfter, stateAfter, Kept, afterLoad}
+use Rattle.pack.specs.Steps.{state-next, state-ready, state-fresh}
+
+-- ---- a pack that accepts anything has an accepted page
+
+page-with : (v : Verdict) (bytes : List ℕ) → judged bytes ≡ v → 0 < loadedWith v bytes .settings .n → Good (loadedWith v bytes .settings)
+unfolding noSettings
+page-with Accepted bytes e h = accepted-good bytes e
+page-with (Refused k w) bytes e h = absurd (omega arith)
+
+pub page-good : (bytes : List ℕ) → 0 < pageOf bytes .n → Good (pageOf bytes)
+unfolding loadedOf
+page-good bytes h = page-with (judged bytes) bytes refl h
+
+-- An accepted page's settings are what it says.
+pub page-accepted : (bytes : List ℕ) → judged bytes ≡ Accepted → pageOf bytes ≡ settingsOf bytes
+unfolding loadedOf
+page-accepted bytes e = ap (λ (v : Verdict). loadedWith v bytes .settings) e
+
+some-if : (n : ℕ) (v : Verdict) → (n ≡ 0 → accepts v ≡ false) → accepts v ≡ true → 0 < n
+some-if zero v none e = clash e (none refl)
+some-if (suc n) v none e = zero-lt-suc n
+
+sample-some : (n : ℕ) (s : Sample) → accepts (sampleVerdict n s) ≡ true → 0 < n
+sample-some n s = some-if n (sampleVerdict n s) (λ z. ap accepts (sample-none n s z))
+
+-- ---- the state after one event more
+
+-- Offering a sample.
+pub offered-is : (bytes : List ℕ) (es : List Event) (s : Sample)
+    → offered (stateAfter bytes es) s ≡ answered (sampleVerdict (pageOf bytes .n) s) (stateAfter bytes (offer s ∷ es))
+unfolding offered stateAfter stateOf pastOf withEvent
+offered-is bytes es s =
+    by-test (accepts (sampleVerdict (pageOf bytes .n) s))
+    (λ t. rw t (ap (answered (sampleVerdict (pageOf bytes .n) s))
+    (state-next (pageOf bytes) (page-good bytes (sample-some (pageOf bytes .n) s t)) (pastAfter bytes es) (trimmed s))))
+    (λ t. rw t)
+
+-- Commanding the switches.
+pub commanded-is : (bytes : List ℕ) (es : List Event) (c : ℕ)
+    → commanded (stateAfter bytes es) c ≡ answered (commandVerdict (pageOf bytes .n) c) (stateAfter bytes (command c ∷ es))
+unfolding commanded withCommand stateAfter stateOf pastOf withEvent
+commanded-is bytes es c =
+    by-test (accepts (commandVerdict (pageOf bytes .n) c)) (λ t. rw t) (λ t. rw t)
+
+-- ---- what each call hands on
+
+pub kept-load : (bytes : List ℕ) → Kept (afterLoad bytes .pack)
+unfolding afterLoad stateAfter pastOf
+kept-load bytes = record { bytes = bytes; events = []; is = state-fresh (pageOf bytes) }
+
+pub kept-offer : (p : Pack) (s : Sample) → Kept p → Kept (offered p s .pack)
+kept-offer p s k =
+    record {
+      bytes = k .bytes;
+      events = offer s ∷ k .events;
+      is = ap (λ (q : Pack). offered q s .pack) (k .is) ∙ ap (λ (a : Answered). a .pack) (offered-is (k .bytes) (k .events) s);
+    }
+
+pub kept-command : (p : Pack) (c : ℕ) → Kept p → Kept (commanded p c .pack)
+kept-command p c k =
+    record {
+      bytes = k .bytes;
+      events = command c ∷ k .events;
+      is = ap (λ (q : Pack). commanded q c .pack) (k .is) ∙ ap (λ (a : Answered). a .pack) (commanded-is (k .bytes) (k .events) c);
+    }
+
+-- A sample that is accepted finds the pack ready for the step.
+pub kept-ready : (p : Pack) (s : Sample) → Kept p → sampleVerdict (p .rules .n) s ≡ Accepted → Ready p
+unfolding stateAfter stateOf
+kept-ready p s k e =
+    let same : sampleVerdict (pageOf (k .bytes) .n) s ≡ Accepted = sym (ap (λ (q : Pack). sampleVerdict (q .rules .n) s) (k .is)) ∙ e in
+    rw (k .is) (state-ready (pageOf (k .bytes)) (page-good (k .bytes) (sample-some (pageOf (k .bytes) .n) s (ap accepts same))) (pastAfter (k .bytes) (k .events)))
+
+-- ---- the ends of the calls, in the code's own terms
+
+pub load-is : (bytes : List ℕ) (l : Loaded) (q : Pack) → l ≡ loadedOf bytes → q ≡ freshPack (l .settings)
+    → (answered (l .verdict) q ≡ afterLoad bytes) × Kept q
+unfolding afterLoad
+load-is bytes l q el eq =
+    let is : q ≡ freshPack (pageOf bytes) = eq ∙ ap (λ (x : Loaded). freshPack (x .settings)) el in
+    (rw (is, el), rw is (kept-load bytes))
+
+module _ (p : Pack) (k : Kept p) where
+  -- An accepted sample: `t` is what is kept of it.
+  pub offer-accepted : (s t : Sample) (v : Verdict) (q : Pack) → v ≡ sampleVerdict (p .rules .n) s → v ≡ Accepted → t ≡ trimmed s
+      → q ≡ acceptedPack p t → (answered v q ≡ offered p s) × Kept q
+  unfolding offered
+  offer-accepted s t v q ev ea et eq =
+      let is : answered v q ≡ offered p s = rw (← ev, ea, eq, et) in
+      (is, rw (ap (λ (a : Answered). a .pack) is) (kept-offer p s k))
+
+  pub offer-refused : (s : Sample) (v : Verdict) (number word : ℕ) → v ≡ sampleVerdict (p .rules .n) s → v ≡ Refused number word
+      → (answered v p ≡ offered p s) × Kept p
+  unfolding offered
+  offer-refused s v number word ev er = (rw (← ev, er), k)
+
+  pub command-accepted : (c : ℕ) (v : Verdict) → v ≡ commandVerdict (p .rules .n) c → v ≡ Accepted
+      → (answered v (withCommand p (c % 256)) ≡ commanded p c) × Kept (withCommand p (c % 256))
+  unfolding commanded
+  command-accepted c v ev ea =
+      let small : c % 256 ≡ c = mod-eq-of-lt (let h = command-most (p .rules .n) c (sym ev ∙ ea) in omega arith) in
+      let is : answered v (withCommand p (c % 256)) ≡ commanded p c = rw (← ev, ea, small) in
+      (is, rw (ap (λ (a : Answered). a .pack) is) (kept-command p c k))
+
+  pub command-refused : (c : ℕ) (v : Verdict) (number word : ℕ) → v ≡ commandVerdict (p .rules .n) c → v ≡ Refused number word
+      → (answered v p ≡ commanded p c) × Kept p
+  unfolding commanded
+  command-refused c v number word ev er = (rw (← ev, er), k)

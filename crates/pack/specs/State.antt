@@ -1,0 +1,203 @@
+-- The state of a pack: what document 01 says of it from the page and the history, and the step that the code takes.
+-- Assumes nothing.
+use mathlib.Core.Bool.{Bool, true, false, cond}
+use mathlib.Core.List.{List, [], _∷_}
+use Prim.Native.Nat.{ℕ, zero, suc, _+_, _-_, _%_}
+use lib.Dec.{ltb}
+use lib.IntN.{ℤ, pos}
+use lib.ListN.{length, replicate}
+use Rattle.units.specs.declared.MilliVolts.{MilliVolts}
+use Rattle.units.specs.declared.DeciKelvin.{DeciKelvin}
+use Rattle.units.specs.declared.CellNo.{CellNo}
+use Rattle.guard.specs.declared.Sample.{Sample}
+use Rattle.guard.specs.declared.Protection.{Protection}
+use Rattle.guard.specs.Cells.{noVolts, extremesOf, lookedAt, lowest}
+use Rattle.guard.specs.declared.Extremes.{Extremes}
+use Rattle.guard.specs.Steps.{protectionsOf, stepAll, AllWithin}
+use Rattle.guard.specs.Words.{someRaised, anyRaised}
+use Rattle.page.specs.declared.Verdict.{Verdict}
+use Rattle.page.specs.declared.Verdict.the-variants.{Accepted, Refused}
+use Rattle.settings.specs.declared.Settings.{Settings}
+use Rattle.bleed.specs.Wants.{isCharging}
+use Rattle.bleed.specs.Steps.{wishes, wantingWord, restingWord, chosenWord, nextCell, nextRuns, CellOf}
+use Rattle.bleed.specs.History.{bleds, resting, startCell}
+use Rattle.bleed.specs.Word.{wordTo}
+use Rattle.bleed.specs.Balance.{runsOf, bledWord}
+use Rattle.pack.specs.declared.Rules.{Rules}
+use Rattle.pack.specs.declared.Balance.{Balance}
+use Rattle.pack.specs.declared.Pack.{Pack}
+use Rattle.pack.specs.declared.Answered.{Answered}
+use Rattle.samples.specs.Samples.{sampleVerdict, commandVerdict, trimmed}
+use Rattle.pack.specs.Events.{Past, past, accepts}
+
+-- What the page says, but for the protections' limits.
+abbrev pub rulesOf : Settings → Rules
+rulesOf page =
+    record {
+      n = page .n;
+      k = page .k;
+      r = page .r;
+      floor = page .floor;
+      difference = page .difference;
+      detection = page .detection;
+      voltage = page .voltage;
+      current = page .current;
+    }
+
+-- ---- from the page and the history
+
+-- Which cells want bleeding at the latest sample s of a history: "protections first, then bleeding with the new protections".
+unfoldable pub wishAt : Settings → Sample → List Sample → ℕ → Bool
+wishAt page s h =
+    wishes (isCharging (page .detection) (s .current)) (someRaised (page .limits) (s ∷ h)) (page .floor .0)
+    (page .difference .0) (extremesOf (s .cells) (s .count) .lowest .0) (s .cells)
+
+-- Which cells wanted at each sample of a history.
+unfoldable pub wishesOf : Settings → List Sample → List (ℕ → Bool)
+wishesOf page [] = []
+wishesOf page (s ∷ h) = wishAt page s h ∷ wishesOf page h
+
+-- What stands for the latest sample before the first.
+abbrev pub noSample : Sample
+noSample =
+    record { count = 0; cells = replicate 10 noVolts; current = pos 0; t1 = record { 0 = 0 }; t2 = record { 0 = 0 } }
+
+abbrev pub latestOf : List Sample → Sample
+latestOf [] = noSample
+latestOf (s ∷ h) = s
+
+abbrev pub anySample : List Sample → Bool
+anySample [] = false
+anySample (s ∷ h) = true
+
+module _ (page : Settings) where
+  -- n, K and R of the page.
+  abbrev n : ℕ
+  n = page .n
+
+  abbrev K : ℕ
+  K = page .k
+
+  abbrev R : ℕ
+  R = page .r
+
+  -- The word of the cells that rested at the latest sample; none before the first.
+  unfoldable pub restedAfter : List Sample → ℕ
+  restedAfter [] = 0
+  restedAfter (s ∷ h) = wordTo n (resting R (bleds n K R (wishesOf page h)))
+
+  -- The word of the cells that were bled at the latest sample; none before the first.
+  unfoldable pub bledAfter : List Sample → ℕ
+  bledAfter h = bledWord n K R (wishesOf page h)
+
+  -- What bleeding keeps. The latest of i samples had i - 1 before it.
+  unfoldable pub balanceAfter : List Sample → Balance
+  balanceAfter h =
+      record {
+        begun = record { 0 = startCell n (length h - 1) };
+        rested = restedAfter h;
+        bled = bledAfter h;
+        start = record { 0 = startCell n (length h) };
+        runs = runsOf n K R (wishesOf page h);
+      }
+
+  -- The state of a pack with this page after this past.
+  unfoldable pub stateOf : Past → Pack
+  stateOf p =
+      record {
+        rules = rulesOf page;
+        protections = protectionsOf (page .limits) (p .history);
+        balance = balanceAfter (p .history);
+        latest = latestOf (p .history);
+        sampled = anySample (p .history);
+        command = p .standing;
+        tick = length (p .history) % 1000000;
+      }
+
+-- ---- the step that the code takes
+
+-- The tick goes on by one, modulo 1000000.
+unfoldable pub nextTick : ℕ → ℕ
+nextTick t = cond (ltb t 999999) (t + 1) 0
+
+-- At a load: start cell 1, and nothing bled yet.
+unfoldable pub freshBalance : Balance
+freshBalance =
+    record { begun = record { 0 = 1 }; rested = 0; bled = 0; start = record { 0 = 1 }; runs = replicate 10 0 }
+
+-- Bleeding at a sample of whose cells the word `want` has those that want.
+unfoldable pub nextBalance : Rules → ℕ → Balance → Balance
+nextBalance r want b =
+    record {
+      begun = b .start;
+      rested = restingWord (r .n) (r .r) (b .runs);
+      bled = chosenWord (r .n) (r .k) want (restingWord (r .n) (r .r) (b .runs)) (b .start .0);
+      start = record { 0 = nextCell (r .n) (b .start .0) };
+      runs = nextRuns (chosenWord (r .n) (r .k) want (restingWord (r .n) (r .r) (b .runs)) (b .start .0)) (b .runs);
+    }
+
+-- The word of the cells that want bleeding at a sample whose highest and lowest cell are e, by the protections after it.
+unfoldable pub wantWith : Extremes → Rules → Sample → List Protection → ℕ
+wantWith e r s ps =
+    wantingWord (r .n) (isCharging (r .detection) (s .current)) (anyRaised ps) (r .floor .0) (r .difference .0) (e .lowest .0) (s .cells)
+
+abbrev pub wantAt : Rules → Sample → List Protection → ℕ
+wantAt r s ps = wantWith (extremesOf (s .cells) (s .count)) r s ps
+
+-- What the step takes as given: every run is below its N or M, and the start cell is a cell of the pack.
+pub record Ready (p : Pack) : Type 0 where
+  pub runs : AllWithin (p .protections)
+  pub start : CellOf (p .rules .n) (p .balance .start .0)
+
+-- The pack after an accepted sample, of which `s` is kept.
+unfoldable pub acceptedPack : Pack → Sample → Pack
+acceptedPack p s =
+    record {
+      rules = p .rules;
+      protections = stepAll s (p .protections);
+      balance = nextBalance (p .rules) (wantAt (p .rules) s (stepAll s (p .protections))) (p .balance);
+      latest = s;
+      sampled = true;
+      command = p .command;
+      tick = nextTick (p .tick);
+    }
+
+-- The pack at a load.
+unfoldable pub freshPack : Settings → Pack
+freshPack page =
+    record {
+      rules = rulesOf page;
+      protections = protectionsOf (page .limits) [];
+      balance = freshBalance;
+      latest = noSample;
+      sampled = false;
+      command = 0;
+      tick = 0;
+    }
+
+abbrev pub answered : Verdict → Pack → Answered
+answered v p = record { verdict = v; pack = p }
+
+-- A sample that is offered: a refused one leaves the pack as it was.
+unfoldable pub offered : Pack → Sample → Answered
+offered p s =
+    let v = sampleVerdict (p .rules .n) s in
+    answered v (cond (accepts v) (acceptedPack p (trimmed s)) p)
+
+-- A switch command "acts at once and touches nothing else".
+unfoldable pub withCommand : Pack → ℕ → Pack
+withCommand p c =
+    record {
+      rules = p .rules;
+      protections = p .protections;
+      balance = p .balance;
+      latest = p .latest;
+      sampled = p .sampled;
+      command = c;
+      tick = p .tick;
+    }
+
+unfoldable pub commanded : Pack → ℕ → Answered
+commanded p c =
+    let v = commandVerdict (p .rules .n) c in
+    answered v (cond (accepts v) (withCommand p c) p)

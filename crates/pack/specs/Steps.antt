@@ -1,0 +1,159 @@
+-- One step on from the state that a past stands for is the state of the longer past: the second demand, call by call.
+-- Assumes nothing.
+use mathlib.Core.Path.{_≡_, refl, sym, ap, ap₂, _∙_}
+use mathlib.Core.Bool.{Bool, true, false, cond}
+use mathlib.Core.List.{List, [], _∷_}
+use Prim.Native.Nat.{ℕ, zero, suc, _+_, _-_, _%_, _≤_, _<_}
+use native.Mathlib.Omega.{arith}
+use native.Mathlib.Nat.{mod-eq-of-lt, not-suc-le-zero, le-of-suc-le-suc}
+use lib.Dec.{ltb}
+use lib.ListN.{length}
+use borrow.Author.Tests.{ltb-true, ltb-false}
+use Rattle.laws.specs.Tests.{by-test}
+use Rattle.laws.specs.Bits.{withBitIf}
+use Rattle.units.specs.declared.CellNo.{CellNo}
+use Rattle.guard.specs.declared.Sample.{Sample}
+use Rattle.guard.specs.declared.Protection.{Protection}
+use Rattle.guard.specs.Cells.{extremesOf}
+use Rattle.guard.specs.Steps as protected
+use Rattle.guard.specs.Steps.{AllGood, protectionsOf, stepAllWith, protections-step, protections-within}
+use Rattle.guard.specs.Words.{anyRaised, someRaised, anyRaised-is}
+use Rattle.settings.specs.declared.Settings.{Settings}
+use Rattle.settings.specs.Good.{Good, GoodLimits}
+use Rattle.bleed.specs.History.{bleds, resting, startCell}
+use Rattle.bleed.specs.Word.{wordTo}
+use Rattle.bleed.specs.Steps.{wantingWord, restingWord, rested, chosenWord, nextCell, nextRuns, CellOf, wishes, tenAtMost}
+use Rattle.bleed.specs.StepLaws.{ten-is}
+use Rattle.bleed.specs.Balance.{runsOf, bledWord, Shows, wanting-shows, start-cell, next-start-is, rested-is, choose-is, runs-are}
+use Rattle.pack.specs.declared.Rules.{Rules}
+use Rattle.pack.specs.declared.Balance.{Balance}
+use Rattle.pack.specs.declared.Pack.{Pack}
+use Rattle.pack.specs.Events.{Past, past}
+use Rattle.pack.specs.State.{rulesOf, wishAt, wishesOf, restedAfter, bledAfter, balanceAfter, stateOf, nextTick, nextBalance, wantWith, wantAt, Ready, acceptedPack, freshBalance, freshPack}
+
+-- ---- the tick
+
+pub tick-next : (count : ℕ) → nextTick (count % 1000000) ≡ suc count % 1000000
+unfolding nextTick
+tick-next count =
+    by-test (ltb (count % 1000000) 999999)
+    (λ t. let h = ltb-true (count % 1000000) 999999 t in rw t (omega arith))
+    (λ t. let h = ltb-false (count % 1000000) 999999 t in rw t (omega arith))
+
+-- ---- small laws
+
+-- The word of a test depends only on what the test says of its cells.
+word-same : (m : ℕ) (p q : ℕ → Bool) → ((k : ℕ) → 1 ≤ k → k ≤ m → p k ≡ q k) → wordTo m p ≡ wordTo m q
+unfolding wordTo
+word-same zero p q same = refl
+word-same (suc i) p q same =
+    ap₂ (λ (b : Bool) (w : ℕ). withBitIf b w i) (same (suc i) (omega arith) (omega arith)) (word-same i p q (λ k a b. same k a (omega arith)))
+
+-- There is a wish for each sample.
+pub wishes-length : (page : Settings) (h : List Sample) → length (wishesOf page h) ≡ length h
+unfolding wishesOf
+wishes-length page [] = refl
+wishes-length page (s ∷ h) = ap suc (wishes-length page h)
+
+abbrev balanced : CellNo → ℕ → ℕ → CellNo → List ℕ → Balance
+balanced a r b s l = record { begun = a; rested = r; bled = b; start = s; runs = l }
+
+abbrev packed : Rules → List Protection → Balance → Sample → Bool → ℕ → ℕ → Pack
+packed r ps b l any c t =
+    record { rules = r; protections = ps; balance = b; latest = l; sampled = any; command = c; tick = t }
+
+-- Two balances are equal part by part.
+balance-same : {a a′ s s′ : CellNo} {r r′ b b′ : ℕ} {l l′ : List ℕ} → a ≡ a′ → r ≡ r′ → b ≡ b′ → s ≡ s′ → l ≡ l′
+    → balanced a r b s l ≡ balanced a′ r′ b′ s′ l′
+balance-same ea er eb es el = cc
+
+-- A state's parts that a sample changes by a step.
+pack-same : {r : Rules} {ps ps′ : List Protection} {b b′ : Balance} {l : Sample} {c t t′ : ℕ} → ps ≡ ps′ → b ≡ b′ → t ≡ t′
+    → packed r ps b l true c t ≡ packed r ps′ b′ l true c t′
+pack-same ep eb et = cc
+
+-- ---- what an accepted page gives
+
+module _ (page : Settings) (good : Good page) where
+  some : 1 ≤ page .n
+  some = let h = good .n in omega arith
+
+  ten : page .n ≤ 10
+  ten = good .n .1
+
+  short : page .r < 255
+  short = let h = good .r in omega arith
+
+  pub limits-good : AllGood (page .limits)
+  limits-good p h =
+      let g = good .each p h in
+      record { n-least = g .n .0; n-most = g .n .1; m-least = g .m .0; m-most = g .m .1; mask-most = g .mask; ordered = g .order }
+
+  -- ---- bleeding
+
+  -- The wanting word of the code shows who wants.
+  want-shows : (s : Sample) (h : List Sample)
+      → Shows (page .n) (wantAt (rulesOf page) s (protectionsOf (page .limits) (s ∷ h))) (wishAt page s h)
+  unfolding wantWith wishAt
+  want-shows s h = rw (anyRaised-is (page .limits) (s ∷ h)) (wanting-shows (page .n) _ _ _ _ _ (s .cells) ten)
+
+  -- Who rests by the counters is who rests by the history.
+  rested-word : (ws : List (ℕ → Bool))
+      → restingWord (page .n) (page .r) (runsOf (page .n) (page .k) (page .r) ws)
+      ≡ wordTo (page .n) (resting (page .r) (bleds (page .n) (page .k) (page .r) ws))
+  unfolding restingWord
+  rested-word ws =
+      rw (ten-is (page .n) ten) (word-same (page .n) _ _ (λ k a b. rested-is (page .n) (page .k) (page .r) ws k a (let t = ten in omega arith)))
+
+  -- One step of bleeding.
+  balance-next : (s : Sample) (h : List Sample) (want : ℕ) → Shows (page .n) want (wishAt page s h)
+      → nextBalance (rulesOf page) want (balanceAfter page h) ≡ balanceAfter page (s ∷ h)
+  unfolding nextBalance balanceAfter restedAfter bledAfter wishesOf
+  balance-next s h want shows =
+      let ws = wishesOf page h in
+      let same : length h ≡ length ws = sym (wishes-length page h) in
+      let begun : suc (length h) - 1 ≡ length h = omega arith in
+      let who : restingWord (page .n) (page .r) (runsOf (page .n) (page .k) (page .r) ws) ≡ wordTo (page .n) (resting (page .r) (bleds (page .n) (page .k) (page .r) ws)) =
+      rested-word ws in
+      let chose = choose-is (page .n) (page .k) (page .r) some ten (wishAt page s h) ws want shows in
+      let runs = runs-are (page .n) (page .k) (page .r) some ten (wishAt page s h) ws short in
+      let next = next-start-is (page .n) (length h) some in
+      balance-same
+      (ap (λ (x : ℕ). record { 0 = startCell (page .n) x }) (sym begun))
+      who
+      (ap (chosenWord (page .n) (page .k) want (restingWord (page .n) (page .r) (runsOf (page .n) (page .k) (page .r) ws))) (ap (startCell (page .n)) same) ∙ chose)
+      (ap (λ (x : ℕ). record { 0 = x }) next)
+      (ap (λ (x : ℕ). nextRuns x (runsOf (page .n) (page .k) (page .r) ws)) (ap (chosenWord (page .n) (page .k) want (restingWord (page .n) (page .r) (runsOf (page .n) (page .k) (page .r) ws))) (ap (startCell (page .n)) same) ∙ chose) ∙ runs)
+
+  -- ---- the whole state
+
+  -- THE STEP: an accepted sample leads from the state of a past to the state of the past with that sample.
+  pub state-next : (p : Past) (s : Sample)
+      → acceptedPack (stateOf page p) s ≡ stateOf page (past (s ∷ p .history) (p .standing))
+  unfolding acceptedPack stateOf
+  state-next p s =
+      let h = p .history in
+      let guarded = protections-step (page .limits) limits-good s h in
+      pack-same guarded
+      (ap (λ (ps : List Protection). nextBalance (rulesOf page) (wantAt (rulesOf page) s ps) (balanceAfter page h)) guarded
+      ∙ balance-next s h (wantAt (rulesOf page) s (protectionsOf (page .limits) (s ∷ h))) (want-shows s h))
+      (tick-next (length h))
+
+  -- So the step may be taken after any past.
+  pub state-ready : (p : Past) → Ready (stateOf page p)
+  unfolding stateOf balanceAfter
+  state-ready p =
+      record { runs = protections-within (page .limits) limits-good (p .history); start = start-cell (page .n) (length (p .history)) some ten }
+
+-- ---- at the load
+
+zero-mod : (n : ℕ) → 0 % n ≡ 0
+zero-mod zero = refl
+zero-mod (suc n) = mod-eq-of-lt (omega arith)
+
+-- A fresh pack is the state of no past, for a pack without a page too.
+pub state-fresh : (page : Settings) → freshPack page ≡ stateOf page (past [] 0)
+unfolding freshPack stateOf freshBalance balanceAfter restedAfter bledAfter wishesOf runsOf bledWord
+state-fresh page =
+    let none : 0 - 1 ≡ 0 = omega arith in
+    rw (none, zero-mod (page .n))

@@ -1,0 +1,377 @@
+// The pack: loading a page, offering a sample, commanding the switches, and what the state then shows.
+ghost use mathlib.Core.Path.{_≡_};
+ghost use Rattle.laws.specs.Bits.{hasBit};
+ghost use Rattle.bleed.specs.Steps.{CellOf};
+ghost use Rattle.pack.specs.State.{rulesOf, noSample, nextTick, wantWith, freshBalance, nextBalance, Ready, freshPack, acceptedPack, offered, commanded};
+ghost use Rattle.pack.specs.Kept.{Kept, afterLoad};
+ghost use Rattle.pack.specs.Shown.{switchOn, switchesOf, modeNumber, modeOrder, firstMode, flowMode, modeOf, decisionOf};
+use bleed::choose;
+use bleed::is_charging;
+use bleed::next_runs;
+use bleed::next_start;
+use bleed::resting;
+use bleed::wanting;
+use guard::Extremes;
+use guard::Protection;
+use guard::Sample;
+use guard::any_raised;
+use guard::blocks;
+use guard::extremes_of;
+use guard::fresh;
+use guard::raised_word;
+use guard::step_all;
+use laws::has_bit;
+use laws::with_bit_if;
+use page::Verdict;
+use protections::Mode;
+use protections::PROTECTIONS;
+use protections::row_of;
+use samples::command_verdict;
+use samples::sample_verdict;
+use samples::trim;
+use settings::Settings;
+use units::CellNo;
+use units::DeciKelvin;
+use units::MilliVolts;
+use units::ProtectionNo;
+
+// What the page says, but for the protections' limits, which the protections hold.
+pub struct Rules {
+    pub n: u8,
+    pub k: u8,
+    pub r: u8,
+    pub floor: MilliVolts,
+    pub difference: MilliVolts,
+    pub detection: i16,
+    pub voltage: MilliVolts,
+    pub current: i16,
+}
+
+// What bleeding keeps: of the latest accepted sample its start cell, who rested and who was bled; for the next one the start
+// cell, and at how many samples in a row up to now each cell was bled. Bit k - 1 of a word stands for cell k.
+pub struct Balance {
+    pub begun: CellNo,
+    pub rested: u16,
+    pub bled: u16,
+    pub start: CellNo,
+    pub runs: [u8; 10],
+}
+
+// The state of a pack. It does not grow with the history. Without a page n is 0, and every sample and command is refused.
+pub struct Pack {
+    pub rules: Rules,
+    pub protections: [Protection; PROTECTIONS],
+    pub balance: Balance,
+    pub latest: Sample,
+    pub sampled: bool,
+    pub command: u8,
+    pub tick: u32,
+}
+
+// What a call answers, beside the state that it hands back.
+pub struct Answered {
+    pub verdict: Verdict,
+    pub pack: Pack,
+}
+
+// The five fields of a line of the replay.
+pub struct Decision {
+    pub tick: u32,
+    pub raised: u16,
+    pub fets: u16,
+    pub balance: u16,
+    pub mode: u16,
+}
+
+// ---- an accepted sample
+
+fn next_tick(t: u32) -> u32
+    ensures { λ r. ⌜ r ≡ nextTick t ⌝ }
+{
+    if t < 999999 {
+        return t + 1;
+    }
+    0
+}
+
+// The cells that want bleeding, by the protections after the sample.
+fn want_at(r: Rules, s: Sample, e: Extremes, ps: [Protection; PROTECTIONS]) -> u16
+    ensures { λ w. ⌜ w ≡ wantWith e r s ps ⌝ }
+{
+    let charging = is_charging(r.detection, s.current);
+    let raised = any_raised(ps);
+    let cells = s.cells;
+    wanting(
+        r.n,
+        charging,
+        raised,
+        r.floor,
+        r.difference,
+        e.lowest,
+        cells,
+    )
+}
+
+// Bleeding at one sample.
+fn next_balance(r: Rules, want: u16, b: Balance) -> Balance
+    requires { ⌜ CellOf (r .n) (b .start .0) ⌝ }
+    ensures { λ q. ⌜ q ≡ nextBalance r want b ⌝ }
+{
+    let runs = b.runs;
+    let start = b.start;
+    let rested = resting(r.n, r.r, runs);
+    let bled = choose(r.n, r.k, want, rested, start);
+    let next = next_runs(bled, runs);
+    let after = next_start(r.n, start);
+    Balance {
+        begun: start,
+        rested: rested,
+        bled: bled,
+        start: after,
+        runs: next,
+    }
+}
+
+// Protections first, then bleeding with the new protections.
+fn accept(p: Pack, s: Sample) -> Pack
+    requires { ⌜ Ready p ⌝ }
+    ensures { λ r. ⌜ r ≡ acceptedPack p s ⌝ }
+{
+    let cells = s.cells;
+    let e = extremes_of(cells, s.count);
+    let old = p.protections;
+    let protections = step_all(old, s, e);
+    let rules = p.rules;
+    let want = want_at(rules, s, e, protections);
+    let kept = p.balance;
+    let balance = next_balance(rules, want, kept);
+    Pack {
+        rules: rules,
+        protections: protections,
+        balance: balance,
+        latest: s,
+        sampled: true,
+        command: p.command,
+        tick: next_tick(p.tick),
+    }
+}
+
+// ---- the calls
+
+fn no_sample() -> Sample
+    ensures { λ r. ⌜ r ≡ noSample ⌝ }
+{
+    Sample {
+        count: 0,
+        cells: [MilliVolts(0); 10],
+        current: 0,
+        t1: DeciKelvin(0),
+        t2: DeciKelvin(0),
+    }
+}
+
+fn fresh_balance() -> Balance
+    ensures { λ r. ⌜ r ≡ freshBalance ⌝ }
+{
+    Balance {
+        begun: CellNo(1),
+        rested: 0,
+        bled: 0,
+        start: CellNo(1),
+        runs: [0; 10],
+    }
+}
+
+fn rules_of(s: Settings) -> Rules
+    ensures { λ r. ⌜ r ≡ rulesOf s ⌝ }
+{
+    let floor = s.floor;
+    let difference = s.difference;
+    let voltage = s.voltage;
+    Rules {
+        n: s.n,
+        k: s.k,
+        r: s.r,
+        floor: floor,
+        difference: difference,
+        detection: s.detection,
+        voltage: voltage,
+        current: s.current,
+    }
+}
+
+fn fresh_pack(s: Settings) -> Pack
+    ensures { λ r. ⌜ r ≡ freshPack s ⌝ }
+{
+    let rules = rules_of(s);
+    let limits = s.limits;
+    let protections = fresh(limits);
+    let balance = fresh_balance();
+    let latest = no_sample();
+    Pack {
+        rules: rules,
+        protections: protections,
+        balance: balance,
+        latest: latest,
+        sampled: false,
+        command: 0,
+        tick: 0,
+    }
+}
+
+// Loads a page: its verdict, and a pack with no sample yet. A refused page gives the pack without a page.
+pub fn load(bytes: &[u8]) -> Answered
+    ensures { λ r. ⌜ r ≡ afterLoad (now (bytes .entry)) ⌝ }
+    ensures { λ r. ⌜ Kept (r .pack) ⌝ }
+{
+    let loaded = settings::load(bytes);
+    let verdict = loaded.verdict;
+    let s = loaded.settings;
+    let pack = fresh_pack(s);
+    Answered {
+        verdict: verdict,
+        pack: pack,
+    }
+}
+
+// Offers a sample: refused with 9, 10 or 11, and the pack as it was; or accepted.
+pub fn offer(p: Pack, s: Sample) -> Answered
+    requires { ⌜ Kept p ⌝ }
+    ensures { λ r. ⌜ r ≡ offered p s ⌝ }
+    ensures { λ r. ⌜ Kept (r .pack) ⌝ }
+{
+    let rules = p.rules;
+    let verdict = sample_verdict(rules.n, s);
+    match verdict {
+        Verdict::Accepted => {
+            let t = trim(s);
+            let next = accept(p, t);
+            Answered {
+                verdict: verdict,
+                pack: next,
+            }
+        }
+        Verdict::Refused { .. } => Answered {
+            verdict: verdict,
+            pack: p,
+        },
+    }
+}
+
+// Commands the switches, bit 0 charge and bit 1 discharge: refused with 16, or done, and nothing else is touched.
+pub fn command(p: Pack, c: u16) -> Answered
+    requires { ⌜ Kept p ⌝ }
+    ensures { λ r. ⌜ r ≡ commanded p c ⌝ }
+    ensures { λ r. ⌜ Kept (r .pack) ⌝ }
+{
+    let rules = p.rules;
+    let verdict = command_verdict(rules.n, c);
+    match verdict {
+        Verdict::Accepted => {
+            let mut next = p;
+            next.command = (c % 256) as u8;
+            Answered {
+                verdict: verdict,
+                pack: next,
+            }
+        }
+        Verdict::Refused { .. } => Answered {
+            verdict: verdict,
+            pack: p,
+        },
+    }
+}
+
+// ---- what the state shows
+
+// Whether a switch is on: 0 is charge, 1 is discharge.
+fn switch_on(p: Pack, switch: u8) -> bool
+    ensures { λ r. ⌜ r ≡ switchOn p switch ⌝ }
+{
+    if p.sampled {
+        if has_bit(p.command as u16, switch) {
+            let ps = p.protections;
+            return !blocks(ps, switch);
+        }
+    }
+    false
+}
+
+// The switches that are on: bit 0 charge, bit 1 discharge.
+pub fn switches(p: Pack) -> u16
+    ensures { λ r. ⌜ r ≡ switchesOf p ⌝ }
+{
+    let charge = with_bit_if(0, 0, switch_on(p, 0));
+    with_bit_if(charge, 1, switch_on(p, 1))
+}
+
+fn mode_number(m: Mode) -> u8
+    ensures { λ r. ⌜ r ≡ modeNumber m ⌝ }
+{
+    match m {
+        Mode::Silent => 0,
+        Mode::Number(k) => k,
+    }
+}
+
+// The order in which raised protections give the mode.
+const ORDER: [u8; 7] = [4, 3, 2, 0, 7, 6, 5];
+
+// The mode of the first raised protection from place i of the order on, or `other`.
+fn first_mode(raised: u16, other: u8) -> u8
+    ensures { λ r. ⌜ r ≡ firstMode (hasBit raised) modeOrder other ⌝ }
+{
+    let mut i: usize = 0;
+    while i < 7 {
+        let p = ORDER[i];
+        if has_bit(raised, p) {
+            let row = row_of(ProtectionNo(p));
+            let mode = row.mode;
+            return mode_number(mode);
+        }
+        i += 1;
+    }
+    other
+}
+
+fn flow_mode(charging: bool) -> u8
+    ensures { λ r. ⌜ r ≡ flowMode charging ⌝ }
+{
+    if charging {
+        return 0x03;
+    }
+    0x02
+}
+
+// The mode, as command 0x41 sends it.
+pub fn mode(p: Pack) -> u16
+    ensures { λ r. ⌜ r ≡ modeOf p ⌝ }
+{
+    if p.sampled {
+        let rules = p.rules;
+        let latest = p.latest;
+        let other = flow_mode(is_charging(rules.detection, latest.current));
+        let ps = p.protections;
+        let raised = raised_word(ps);
+        return first_mode(raised, other) as u16;
+    }
+    0
+}
+
+// The five fields of a line of the replay.
+pub fn decide(p: Pack) -> Decision
+    ensures { λ r. ⌜ r ≡ decisionOf p ⌝ }
+{
+    let ps = p.protections;
+    let b = p.balance;
+    let raised = raised_word(ps);
+    let fets = switches(p);
+    let mode = mode(p);
+    Decision {
+        tick: p.tick,
+        raised: raised,
+        fets: fets,
+        balance: b.bled,
+        mode: mode,
+    }
+}
