@@ -7,12 +7,11 @@ use mathlib.Core.Logic.{_⊎_, inl, inr, ⊎-elim}
 use Prim.Native.Nat.{ℕ, zero, suc, _+_, _-_, _*_, _/_, _%_, _^_, _≤_, _<_, zero-le}
 use native.Mathlib.Nat.{le-trans, le-of-eq, pow-suc, mod-lt, mod-eq-of-lt, div-eq-of-lt, lt-of-lt-of-le, zero-add, add-zero}
 use native.Mathlib.Omega.{arith}
-use lib.Dec.{eqb, ltb, lit<}
+use lib.Dec.{eqb, lit<}
 use lib.Bits.{bitOr, bitAnd, or-shr, or-mod, or-add-and, or-zero-r, or-zero-l}
 use lib.Count.{ones, onesIn, ones-step, ones-cat}
 use lib.Pow.{pow-pos, pow-mono, pow-lt, pow-add, shl-shr}
-use borrow.Author.Tests.{ltb-true, ltb-false}
-use Rattle.laws.specs.Tests.{by-test}
+use Rattle.laws.specs.Tests.{by-order}
 
 -- Bit i of the word w is set.
 unfoldable pub hasBit : ℕ → ℕ → Bool
@@ -55,7 +54,7 @@ bit-above d i =
     rw e (omega arith)
 
 lt-or-le : (a b : ℕ) → (a < b) ⊎ (b ≤ a)
-lt-or-le a b = by-test (ltb a b) (λ t. inl (ltb-true a b t)) (λ t. inr (ltb-false a b t))
+lt-or-le a b = by-order a b inl inr
 
 bit-other : (c i : ℕ) → (i ≡ c → ⊥) → 2 ^ c / 2 ^ i % 2 ≡ 0
 bit-other c i ne =

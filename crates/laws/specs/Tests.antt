@@ -3,11 +3,18 @@
 use mathlib.Core.Path.{_≡_, refl, sym, _∙_}
 use mathlib.Core.Bool.{Bool, true, false, not, _&&_, _||_, true≢false}
 use mathlib.Core.Logic.{_⊎_, inl, inr}
+use Prim.Native.Nat.{ℕ, _<_, _≤_}
+use lib.Dec.{ltb}
+use borrow.Author.Tests.{ltb-true, ltb-false}
 
 -- Go by a test, and keep what it said.
 pub by-test {ℓ} : {X : Type ℓ} (b : Bool) → (b ≡ true → X) → (b ≡ false → X) → X
 by-test true f g = f refl
 by-test false f g = g refl
+
+-- Go by the order of two numbers.
+pub by-order {ℓ} : {X : Type ℓ} (n m : ℕ) → (n < m → X) → (m ≤ n → X) → X
+by-order n m f g = by-test (ltb n m) (λ t. f (ltb-true n m t)) (λ t. g (ltb-false n m t))
 
 -- A test that is both true and false proves anything.
 pub clash {ℓ} : {X : Type ℓ} {b : Bool} → b ≡ true → b ≡ false → X

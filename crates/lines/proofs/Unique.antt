@@ -1,8 +1,7 @@
 -- Two results that one contract allows are equal, and so is the lent memory. The contracts are those that Rattle reads out of the source.
-use Prim.Native.Nat.{ℕ}
-use mathlib.Core.List.{List}
 use mathlib.Core.Path.{_≡_, sym, _∙_}
-use borrow.Fn.Kinds.{Out, PK, RK, Dens, resT, endedOf}
+use borrow.Fn.Kinds.{Dens, resT, endedOf}
+use Rattle.laws.specs.Unique.{Unique}
 use contract.Lifetimes.{Lfts}
 use denote.Triple.Clauses.{AtExit}
 use Rattle.lines.proofs.next_line.Reads as next-line
@@ -13,10 +12,6 @@ use Rattle.lines.proofs.carried.Reads as carried
 use Rattle.lines.proofs.carried.Kinds as carried-kinds
 use Rattle.lines.proofs.move_down.Reads as move-down
 use Rattle.lines.proofs.move_down.Kinds as move-down-kinds
-
-abbrev Unique : (n : ℕ) (ps : List (PK n)) (r : RK n) → Out n ps r → Type 0
-Unique n ps r P =
-    (κs : Lfts n) (a : Dens κs ps) (x y : resT r κs .Denot) (s t : AtExit (endedOf n ps r) κs) → P κs a x s → P κs a y t → x ≡ y
 
 next-line-one : Unique 1 next-line-kinds.ps next-line-kinds.r next-line.Post
 next-line-one κs a x y s t p q = p ∙ sym q

@@ -9,7 +9,7 @@ use lib.Dec.{leb, ltb}
 use lib.ListN.{length, getD, set, take, drop, length-set, length-take, length-drop, length-append, take-append-drop}
 use lib.Seq.{take-suc, take-suc-set, drop-set-lt, drop-drop, getD-drop, length-take-le, take-take, take-all, take-add, take-at, drop-at}
 use borrow.Author.Tests.{le-leb, lt-leb, leb-true, ltb-true, ltb-false}
-use Rattle.text.specs.Tools.{by-test}
+use Rattle.laws.specs.Tests.{by-test}
 
 -- the bytes that are carried on: all while lines wait in them, and else the first 129, since a line over 128 bytes is as good as its first 129
 abbrev pub keptOf : Bool → List ℕ → List ℕ

@@ -9,7 +9,7 @@ use lib.Dec.{ltb}
 use lib.ListN.{length, take, length-append}
 use lib.Seq.{length-take-le, take-all}
 use borrow.Author.Tests.{ltb-true, ltb-false}
-use Rattle.text.specs.Tools.{by-test}
+use Rattle.laws.specs.Tests.{by-test}
 use Rattle.lines.specs.Lines.{linesOf, plain}
 use Rattle.lines.specs.Carrying.{keptOf}
 use Rattle.lines.specs.Walking.{onto, lines-onto, lines-line, lines-rest, plain-take}

@@ -8,7 +8,7 @@ use lib.Dec.{eqb, ltb}
 use lib.ListN.{length, take, drop, length-drop, drop-of-length-le}
 use lib.Seq.{drop-drop}
 use borrow.Author.Tests.{lt-ltb, le-ltb, ltb-true, ltb-false}
-use Rattle.text.specs.Tools.{by-test}
+use Rattle.laws.specs.Tests.{by-test}
 use Rattle.text.specs.Finding.{before, lacks, lacks-head, before-front, before-lacks, before-splits, before-all}
 use Rattle.text.specs.Fields.{longer}
 use Rattle.lines.specs.Lines.{linesOf, plain, endOf, nextLine, lastLine}

@@ -1,8 +1,7 @@
 -- Two results that one contract allows are equal, and so is the lent memory. The contracts are those that Rattle reads out of the source.
-use Prim.Native.Nat.{ℕ}
-use mathlib.Core.List.{List}
 use mathlib.Core.Path.{_≡_, sym, _∙_}
-use borrow.Fn.Kinds.{Out, PK, RK, Dens, resT, endedOf}
+use borrow.Fn.Kinds.{Dens, resT, endedOf}
+use Rattle.laws.specs.Unique.{Unique}
 use contract.Lifetimes.{Lfts}
 use denote.Triple.Clauses.{AtExit}
 use Rattle.text.specs.Putting.{put-one}
@@ -20,10 +19,6 @@ use Rattle.text.proofs.put_bytes.Reads as put-bytes
 use Rattle.text.proofs.put_bytes.Kinds as put-bytes-kinds
 use Rattle.text.proofs.put_decimal.Reads as put-decimal
 use Rattle.text.proofs.put_decimal.Kinds as put-decimal-kinds
-
-abbrev Unique : (n : ℕ) (ps : List (PK n)) (r : RK n) → Out n ps r → Type 0
-Unique n ps r P =
-    (κs : Lfts n) (a : Dens κs ps) (x y : resT r κs .Denot) (s t : AtExit (endedOf n ps r) κs) → P κs a x s → P κs a y t → x ≡ y
 
 find-one : Unique 1 find-kinds.ps find-kinds.r find.Post
 find-one κs a x y s t p q = p .0 ∙ sym (q .0)

@@ -11,7 +11,7 @@ use lib.ListN.{length, getD}
 use lib.Seq.{append-snoc}
 use lib.Signed.{leZ}
 use borrow.Author.Tests.{le-ltb, ltb-false, eqb-true, eqb-false, ne-eqb, le-leb, leb-true}
-use Rattle.text.specs.Tools.{by-test, by-order}
+use Rattle.laws.specs.Tests.{by-test, by-order}
 use Rattle.text.specs.Decimal.{decimal}
 use Rattle.text.specs.Numbers.{digitsTo, numberTo, numberOf, aboveOf, belowOf, signedOf, signedText}
 use Rattle.text.specs.Spelling.{decimal-digit, decimal-tens, by-digits, decimal-some, decimal-first, decimal-lead, length-tens}

@@ -10,7 +10,7 @@ use lib.Dec.{eqb}
 use lib.ListN.{length, take, drop, getD, drop-of-length-le}
 use lib.Seq.{drop-cons, take-all}
 use borrow.Author.Tests.{eq-eqb, ne-eqb, eqb-true}
-use Rattle.text.specs.Tools.{by-test}
+use Rattle.laws.specs.Tests.{by-test}
 
 -- the bytes of x before the first w, or all of them where there is none
 unfoldable pub before : ℕ → List ℕ → List ℕ

@@ -1,4 +1,3 @@
-pub mod Tools
 pub mod Finding
 pub mod Fields
 pub mod Decimal

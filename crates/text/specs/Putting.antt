@@ -8,7 +8,7 @@ use lib.Dec.{leb}
 use lib.ListN.{length, take, drop, set, length-append, length-drop, length-set}
 use lib.Seq.{length-take-le, take-at, drop-at, drop-append-add, drop-drop, drop-cons, drop-set-lt, take-set-le, getD-set-same, set-split, take-length, paste}
 use borrow.Author.Tests.{le-leb, lt-leb, leb-true, leb-false}
-use Rattle.text.specs.Tools.{by-test}
+use Rattle.laws.specs.Tests.{by-test}
 use Rattle.text.specs.Decimal.{decimal}
 use Rattle.text.specs.Spelling.{decimal-digit, decimal-tens, length-tens}
 use Rattle.text.specs.Placing.{written, room, placed, behind, Put}

@@ -8,7 +8,7 @@ use native.Mathlib.Omega.{arith}
 use lib.Dec.{ltb}
 use lib.ListN.{length, getD, length-append, List·getD-append}
 use borrow.Author.Tests.{lt-ltb, le-ltb, ltb-false, ne-eqb}
-use Rattle.text.specs.Tools.{by-test, by-order}
+use Rattle.laws.specs.Tests.{by-test, by-order}
 use Rattle.text.specs.Decimal.{spell, decimal}
 use Rattle.text.specs.Finding.{lacks, lacks-head}
 

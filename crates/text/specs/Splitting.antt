@@ -7,7 +7,7 @@ use native.Mathlib.Omega.{arith}
 use lib.Dec.{eqb}
 use lib.ListN.{length, take, drop, length-drop, drop-of-length-le}
 use lib.Seq.{drop-drop}
-use Rattle.text.specs.Tools.{by-test}
+use Rattle.laws.specs.Tests.{by-test}
 use Rattle.text.specs.Finding.{before, before-length, before-front}
 use Rattle.text.specs.Fields.{longer, fieldsOf, fieldAt}
 

@@ -19,22 +19,22 @@ use Rattle.page.specs.declared.Verdict.the-variants.{Accepted, Refused}
 use Rattle.guard.specs.declared.Sample.{Sample}
 use Rattle.guard.specs.declared.Extremes.{Extremes}
 use Rattle.samples.specs.Samples.{sampleVerdict, commandVerdict, trimmed, sample-exact}
 use Rattle.pack.specs.Events.{Event, offer, command, accepts, withEvent, pastOf}
 use Rattle.guard.specs.Cells.{noVolts, lowest, lowest-among, extremesOf, extremes-are}
 use Rattle.settings.specs.declared.Settings.{Settings}
 use Rattle.settings.specs.Good.{Good, accepted-good}
 use Rattle.page.specs.Page.{judged}
 use Rattle.bleed.specs.Demand.{bleds-drop}
 use Rattle.pack.specs.Kept.{pageOf, pastAfter}
 use Rattle.pack.specs.Calls.{page-accepted}
 use Rattle.bleed.specs.Walk.{has, neighbours, hasNeighbour, chosen}
 use Rattle.bleed.specs.WalkLaws.{only-wanting, only-cells, no-waste, not-says}
 use Rattle.bleed.specs.History.{wantsCell, resting, startCell, bleds}
 use Rattle.bleed.specs.Wants.{wants}
 use Rattle.bleed.specs.Steps.{wishes, cellOf}
 use Rattle.bleed.specs.Word.{inWord}
 use Rattle.pack.specs.State.{wishAt, wishesOf}
-use Rattle.pack.specs.BledWords.{bledWords, words-alike, alike-drop, alike-among}
+use Rattle.demands.specs.BledWords.{bledWords, words-alike, alike-drop, alike-among}
 
 -- ---- a cell that wants alone
 

@@ -33,14 +33,14 @@ use Rattle.settings.specs.declared.Settings.{Settings}
 use Rattle.settings.specs.declared.Loaded.{Loaded}
 use Rattle.settings.specs.Settings.{inDegrees, tripLevel, releaseLevel, limitsAt, limitsOf, settingsOf, noSettings, loadedOf}
 use Rattle.settings.specs.Cases.{worked, worked-loaded}
 use Rattle.pack.specs.declared.Pack.{Pack}
 use Rattle.pack.specs.declared.Answered.{Answered}
 use Rattle.pack.specs.declared.Decision.{Decision}
 use Rattle.pack.specs.Events.{Event, offer, command, accepts}
 use Rattle.pack.specs.State.{wishAt, wishesOf, bledAfter, freshPack, freshBalance, nextTick, nextBalance, wantWith, acceptedPack, offered, withCommand, commanded}
 use Rattle.pack.specs.Kept.{pageOf}
-use Rattle.pack.specs.BledWords.{bledWords}
+use Rattle.demands.specs.BledWords.{bledWords}
 use Rattle.pack.specs.Shown.{modeOrder, firstMode, switchesOf, modeOf, decisionOf}
 
 -- ---- samples and answers, written short
 

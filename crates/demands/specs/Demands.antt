@@ -1,48 +1,43 @@
 -- THE THREE DEMANDS, for a pack: after a load of any bytes and any events since, refused samples and commands among them. Lists
 -- have the latest first. The page judge's part of the first demand is in crate page (Exactly, Swapped).
 -- Assumes nothing.
-use mathlib.Core.Path.{_≡_, refl, sym, ap, ap₂, _∙_}
-use mathlib.Core.Bool.{Bool, true, false, not, cond, _&&_}
-use mathlib.Core.List.{List, [], _∷_, map}
+use mathlib.Core.Path.{_≡_, refl, ap, _∙_}
+use mathlib.Core.Bool.{true, false, not}
+use mathlib.Core.List.{List, [], _∷_}
 use mathlib.Core.Logic.{_↔_}
-use Prim.Native.Nat.{ℕ, zero, suc, _+_, _-_, _%_, _≤_, _<_}
+use Prim.Native.Nat.{ℕ, zero, suc, _+_, _-_, _≤_, _<_}
 use native.Mathlib.Omega.{arith}
-use lib.Dec.{leb, ltb, lit<}
 use lib.Count.{ones, onesIn}
-use lib.ListN.{length, drop, getD}
+use lib.ListN.{drop, getD}
 use Rattle.laws.specs.Tests.{clash}
-use Rattle.laws.specs.Bits.{hasBit, withBitIf, has-zero}
+use Rattle.laws.specs.Bits.{hasBit, has-zero}
 use Rattle.laws.specs.Latest.{lastAll, among}
 use Rattle.protections.specs.Table.{rowAt, protections}
 use Rattle.page.specs.Page.{judged}
 use Rattle.page.specs.Refusals.{NoFault, Lowest, none-exactly, refuse-exactly}
 use Rattle.page.specs.Exactly.{refused-not, refused-one}
-use Rattle.page.specs.declared.Verdict.{Verdict}
 use Rattle.page.specs.declared.Verdict.the-variants.{Accepted, Refused}
 use Rattle.guard.specs.declared.Sample.{Sample}
-use Rattle.guard.specs.Steps.{raised, limitsAt, protectionsOf}
-use Rattle.guard.specs.Words.{raisedAfter, raisedWord, raisedBits, blocksAny, blocked, raisedBits-is, blocksAny-is, raisedWord-has}
+use Rattle.guard.specs.Steps.{raised, limitsAt}
+use Rattle.guard.specs.Words.{raisedWord-has}
 use Rattle.samples.specs.Samples.{sampleRefusals, sampleVerdict, commandRefusals, commandVerdict}
 use Rattle.settings.specs.declared.Settings.{Settings}
-use Rattle.settings.specs.Settings.{settingsOf}
 use Rattle.settings.specs.Good.{Good, accepted-good}
-use Rattle.bleed.specs.Wants.{isCharging}
 use Rattle.bleed.specs.Walk.{has}
 use Rattle.bleed.specs.History.{bleds}
 use Rattle.bleed.specs.Word.{inWord}
 use Rattle.bleed.specs.History.{wantsCell}
 use Rattle.bleed.specs.Demand.{fair-anywhere, never-over-R}
 use Rattle.bleed.specs.Balance.{bled-few, bled-apart}
 use Rattle.pack.specs.declared.Pack.{Pack}
-use Rattle.pack.specs.declared.Answered.{Answered}
 use Rattle.pack.specs.declared.Decision.{Decision}
-use Rattle.pack.specs.Events.{Event, offer, command, Past, pastOf}
-use Rattle.pack.specs.State.{wishesOf, bledAfter, balanceAfter, stateOf, offered, commanded, anySample, latestOf}
-use Rattle.pack.specs.Kept.{pageOf, pastAfter, stateAfter, afterLoad}
-use Rattle.pack.specs.Shown.{switchAfter, switchesWord, modeOrder, firstMode, flowMode, modeAfter, decisionAfter, decision, switchOn, switchesOf, modeOf, decisionOf}
-use Rattle.pack.specs.BledWords.{bledWords, alike-drop, alike-among, alike-last, some, ten, words-alike}
-use Rattle.pack.specs.Steps.{state-fresh, wishes-length}
-use Rattle.pack.specs.Calls.{offered-is, commanded-is, page-accepted}
+use Rattle.pack.specs.Events.{Event, command}
+use Rattle.pack.specs.State.{wishesOf, bledAfter, offered, commanded}
+use Rattle.pack.specs.Kept.{pageOf, pastAfter, stateAfter}
+use Rattle.pack.specs.Shown.{switchAfter, decisionAfter, switchOn, decisionOf}
+use Rattle.pack.specs.Calls.{page-accepted}
+use Rattle.pack.specs.After.{after, after-is, decided, switch-is}
+use Rattle.demands.specs.BledWords.{bledWords, alike-drop, alike-among, alike-last, some, ten, words-alike}
 
 -- ---- DEMAND 1. "Any page, sample, command or log line gets an answer. Each refusal in document 01 is given exactly when its row
 -- says and no lower number applies. It leaves the pack state and every lent buffer untouched."
@@ -78,83 +73,27 @@ refused-command-untouched p c k w e = rw e
 -- ---- DEMAND 2. "Protections, switches, balance choices, status words and bus replies are what document 01 says of the page and
 -- the history, since its load, of accepted samples and switch commands."
 
--- The pack after a load and a list of calls, one after the other.
-abbrev pub after : List ℕ → List Event → Pack
-after bytes [] = afterLoad bytes .pack
-after bytes (offer s ∷ es) = offered (after bytes es) s .pack
-after bytes (command c ∷ es) = commanded (after bytes es) c .pack
+-- The pack after a load and any calls is in the state that the page and the past say, every field of it.
+pub demand-2-state : (bytes : List ℕ) (es : List Event) → after bytes es ≡ stateAfter bytes es
+demand-2-state = after-is
 
--- It is the state that the page and the past say, every field of it.
-pub after-is : (bytes : List ℕ) (es : List Event) → after bytes es ≡ stateAfter bytes es
-unfolding afterLoad stateAfter pastOf
-after-is bytes [] = state-fresh (pageOf bytes)
-after-is bytes (offer s ∷ es) =
-    ap (λ (p : Pack). offered p s .pack) (after-is bytes es) ∙ ap (λ (a : Answered). a .pack) (offered-is bytes es s)
-after-is bytes (command c ∷ es) =
-    ap (λ (p : Pack). commanded p c .pack) (after-is bytes es) ∙ ap (λ (a : Answered). a .pack) (commanded-is bytes es c)
+-- What it decides, the five fields of a line of the replay, is document 01's.
+pub demand-2-decision : (bytes : List ℕ) (es : List Event) → decisionOf (after bytes es) ≡ decisionAfter (pageOf bytes) (pastAfter bytes es)
+demand-2-decision = decided
 
--- ---- what the state shows is what document 01 says
-
--- The order of modes has only numbers of protections.
-abbrev Numbers : List ℕ → Type 0
-Numbers [] = Unit {0}
-Numbers (i ∷ is) = (i < protections) × Numbers is
-
-order-inside : Numbers modeOrder
-unfolding modeOrder
-order-inside = (lit< tt, (lit< tt, (lit< tt, (lit< tt, (lit< tt, (lit< tt, (lit< tt, tt)))))))
-
-mode-same : (f g : ℕ → Bool) (order : List ℕ) (other : ℕ) → Numbers order → ((i : ℕ) → i < protections → f i ≡ g i)
-    → firstMode f order other ≡ firstMode g order other
-unfolding firstMode
-mode-same f g [] other inside same = refl
-mode-same f g (i ∷ is) other inside same = rw (same i (inside .0), mode-same f g is other (inside .1) same)
-
-decision-same : {t r r′ f f′ b m m′ : ℕ} → r ≡ r′ → f ≡ f′ → m ≡ m′ → decision t r f b m ≡ decision t r′ f′ b m′
-decision-same er ef em = cc
-
-module _ (page : Settings) (p : Past) where
-  -- "A switch is on exactly if at least one sample was accepted, its bit is commanded, and no raised protection has its mask bit."
-  pub switch-is : (switch : ℕ) → switchOn (stateOf page p) switch ≡ switchAfter page p switch
-  unfolding stateOf
-  switch-is switch = rw (blocksAny-is (page .limits) (p .history) switch)
-
-  -- Both switches as a word.
-  pub switches-is : switchesOf (stateOf page p) ≡ switchesWord (switchAfter page p)
-  unfolding switchesOf
-  switches-is = rw (switch-is 0, switch-is 1)
-
-  -- The word of raised protections.
-  pub raised-is : raisedBits (stateOf page p .protections) ≡ raisedWord (page .limits) (p .history)
-  unfolding stateOf
-  raised-is = raisedBits-is (page .limits) (p .history)
-
-  pub mode-is : modeOf (stateOf page p) ≡ modeAfter page (p .history)
-  unfolding modeOf modeAfter stateOf
-  mode-is =
-      let other : ℕ = flowMode (isCharging (page .detection) (latestOf (p .history) .current)) in
-      ap (λ (m : ℕ). cond (anySample (p .history)) m 0)
-      (ap (λ (w : ℕ). firstMode (hasBit w) modeOrder other) (raisedBits-is (page .limits) (p .history))
-      ∙ mode-same (hasBit (raisedWord (page .limits) (p .history))) (raisedAfter (page .limits) (p .history)) modeOrder other order-inside
-      (raisedWord-has (page .limits) (p .history)))
-
-  -- The five fields of a line of the replay.
-  pub decision-is : decisionOf (stateOf page p) ≡ decisionAfter page p
-  unfolding decisionOf decisionAfter stateOf balanceAfter
-  decision-is = decision-same raised-is switches-is mode-is
-
--- After any load and calls, the decision is document 01's.
-pub decided : (bytes : List ℕ) (es : List Event) → decisionOf (after bytes es) ≡ decisionAfter (pageOf bytes) (pastAfter bytes es)
+-- "A commanded switch is on exactly when a sample has been accepted and no raised protection blocks it."
+pub demand-2-switch : (bytes : List ℕ) (es : List Event) (switch : ℕ)
+    → switchOn (after bytes es) switch ≡ switchAfter (pageOf bytes) (pastAfter bytes es) switch
 unfolding stateAfter
-decided bytes es = ap decisionOf (after-is bytes es) ∙ decision-is (pageOf bytes) (pastAfter bytes es)
+demand-2-switch bytes es switch = ap (λ (p : Pack). switchOn p switch) (after-is bytes es) ∙ switch-is (pageOf bytes) (pastAfter bytes es) switch
 
 -- Bit p of its raised word is set exactly if protection p is raised by the history: clear and its last N samples all trip, or raised
 -- before and not its last M all qualify (crate guard, Runs.raised).
-pub raised-exactly : (bytes : List ℕ) (es : List Event) (p : ℕ) → p < protections
+pub demand-2-raised : (bytes : List ℕ) (es : List Event) (p : ℕ) → p < protections
     → hasBit (decisionOf (after bytes es) .raised) p
     ≡ raised (rowAt p) (limitsAt (pageOf bytes .limits) p) (pastAfter bytes es .history)
 unfolding decisionAfter
-raised-exactly bytes es p inside =
+demand-2-raised bytes es p inside =
     ap (λ (d : Decision). hasBit (d .raised) p) (decided bytes es) ∙ raisedWord-has (pageOf bytes .limits) (pastAfter bytes es .history) p inside
 
 -- ---- DEMAND 3. "From a fresh load, over any history, a cell that wants bleeding at n + 1 consecutive accepted samples, n being the

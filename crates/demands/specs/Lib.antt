@@ -1,0 +1,5 @@
+pub mod Agree
+pub mod BledWords
+pub mod Cases
+pub mod Demands
+pub mod TwoCells
