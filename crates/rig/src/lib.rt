@@ -4,7 +4,8 @@ ghost use Rattle.crc.specs.CheckByte.{checkByte};
 ghost use Rattle.page.specs.Page.{judged};
 ghost use Rattle.rig.specs.Answer.{numbered};
 use crc::check_byte;
-use page::{judge, Verdict};
+use page::Verdict;
+use page::judge;
 
 // uint32_t keeper_check_byte(const uint8_t *bytes, size_t length): the check byte of the bytes.
 #[no_mangle]
