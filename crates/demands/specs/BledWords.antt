@@ -56,22 +56,22 @@ module _ {A B : Type 0} (p : A → Bool) (q : B → Bool) where
 -- ---- the words of an accepted page
 
 module _ (page : Settings) (good : Good page) where
-  pub some : 1 ≤ page .n
+  pub some : 1 ≤ page .rules .n
   some = let g = good .n in omega arith
 
-  pub ten : page .n ≤ 10
+  pub ten : page .rules .n ≤ 10
   ten = good .n .1
 
   -- Cell k is in the bled word exactly if it was bled.
   word-has : (k : ℕ) → 1 ≤ k → (ws : List (ℕ → Bool))
-      → inWord (bledWord (page .n) (page .k) (page .r) ws) k ≡ has k (bledNow (page .n) (page .k) (page .r) ws)
+      → inWord (bledWord (page .rules .n) (page .rules .k) (page .rules .r) ws) k ≡ has k (bledNow (page .rules .n) (page .rules .k) (page .rules .r) ws)
   unfolding inWord
   word-has k first ws =
       let e : suc (k - 1) ≡ k = omega arith in
-      rw (lt-ltb 0 k first) (bled-bit (page .n) (page .k) (page .r) some ten ws (k - 1) ∙ ap (λ (i : ℕ). has i (bledNow (page .n) (page .k) (page .r) ws)) e)
+      rw (lt-ltb 0 k first) (bled-bit (page .rules .n) (page .rules .k) (page .rules .r) some ten ws (k - 1) ∙ ap (λ (i : ℕ). has i (bledNow (page .rules .n) (page .rules .k) (page .rules .r) ws)) e)
 
   pub words-alike : (k : ℕ) → 1 ≤ k → (h : List Sample)
-      → Alike (λ w. inWord w k) (has k) (bledWords page h) (bleds (page .n) (page .k) (page .r) (wishesOf page h))
+      → Alike (λ w. inWord w k) (has k) (bledWords page h) (bleds (page .rules .n) (page .rules .k) (page .rules .r) (wishesOf page h))
   unfolding bledAfter wishesOf
   words-alike k first [] = tt
   words-alike k first (s ∷ h) = (word-has k first (wishesOf page (s ∷ h)), words-alike k first h)

@@ -29,10 +29,11 @@ use Rattle.page.specs.Page.{wordAt, within, degreesFit, levelFits, levelOf, ref
 use Rattle.page.specs.declared.Verdict.the-variants.{Accepted}
 use Rattle.page.specs.Worked.{workedPage, pageWith, put}
 use Rattle.guard.specs.declared.Sample.{Sample}
+use Rattle.settings.specs.declared.Rules.{Rules}
 use Rattle.settings.specs.declared.Settings.{Settings}
 use Rattle.settings.specs.declared.Loaded.{Loaded}
-use Rattle.settings.specs.Settings.{inDegrees, tripLevel, releaseLevel, limitsAt, limitsOf, settingsOf, noSettings, loadedOf}
-use Rattle.settings.specs.Cases.{worked, worked-loaded}
+use Rattle.settings.specs.Settings.{inDegrees, tripLevel, releaseLevel, limitsAt, limitsOf, rulesOf, settingsOf, noSettings, loadedOf}
+use Rattle.settings.specs.Cases.{workedRules, worked, worked-loaded}
 use Rattle.pack.specs.declared.Pack.{Pack}
 use Rattle.pack.specs.declared.Answered.{Answered}
 use Rattle.pack.specs.declared.Decision.{Decision}
@@ -188,19 +189,21 @@ modeCases =
     ∷ [])
 
 -- (*) Three cells, K 1, R 1, as real voltages: who wants at samples 3 to 7 is {1,2}, {1,3}, {1,2}, {1,3}, {1,2}. Bled: 1, 3, 2, 3, 1.
-abbrev three : Settings
-three =
+abbrev threeRules : Rules
+threeRules =
     record {
       n = 3;
       k = 1;
       r = 1;
-      floor = worked .floor;
-      difference = worked .difference;
-      detection = worked .detection;
-      voltage = worked .voltage;
-      current = worked .current;
-      limits = worked .limits;
+      floor = workedRules .floor;
+      difference = workedRules .difference;
+      detection = workedRules .detection;
+      voltage = workedRules .voltage;
+      current = workedRules .current;
     }
+
+abbrev three : Settings
+three = record { rules = threeRules; limits = worked .limits }
 
 abbrev quiet : Event
 quiet = charged (4000 ∷ 4000 ∷ 4000 ∷ [])
@@ -242,7 +245,7 @@ pub worked-is : pageOf workedPage ≡ worked
 worked-is = ap (λ (l : Loaded). l .settings) worked-loaded
 
 pub three-is : loadedOf threePage ≡ record { verdict = Accepted; settings = three }
-unfolding loadedOf settingsOf limitsOf limitsAt tripLevel releaseLevel inDegrees levelOf signedOf judged refusals wordAt within degreesFit levelFits rowAt table checkByte remainder withByte timesXs timesX
+unfolding loadedOf settingsOf rulesOf limitsOf limitsAt tripLevel releaseLevel inDegrees levelOf signedOf judged refusals wordAt within degreesFit levelFits rowAt table checkByte remainder withByte timesXs timesX
 three-is = refl
 
 -- ---- the third demand is not empty, and n samples are too few

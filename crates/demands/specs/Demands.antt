@@ -108,35 +108,35 @@ bled-is bytes s h es e = ap (λ (d : Decision). d .balance) (decided bytes es) �
 
 module _ (page : Settings) (good : Good page) where
   -- Cell k wants at n + 1 accepted samples in a row, j samples before the latest: it is bled in at least one of them.
-  pub fair : (k : ℕ) → 1 ≤ k → k ≤ page .n → (j : ℕ) (h : List Sample)
-      → lastAll (suc (page .n)) (wantsCell k) (drop j (wishesOf page h)) ≡ true
-      → 0 < among (suc (page .n)) (λ w. inWord w k) (drop j (bledWords page h))
+  pub fair : (k : ℕ) → 1 ≤ k → k ≤ page .rules .n → (j : ℕ) (h : List Sample)
+      → lastAll (suc (page .rules .n)) (wantsCell k) (drop j (wishesOf page h)) ≡ true
+      → 0 < among (suc (page .rules .n)) (λ w. inWord w k) (drop j (bledWords page h))
   fair k first last j h wanting =
-      rw (alike-among (λ w. inWord w k) (has k) (suc (page .n)) (drop j (bledWords page h)) (drop j (bleds (page .n) (page .k) (page .r) (wishesOf page h)))
-      (alike-drop (λ w. inWord w k) (has k) j (bledWords page h) (bleds (page .n) (page .k) (page .r) (wishesOf page h)) (words-alike page good k first h)))
-      (fair-anywhere (page .n) (page .k) (page .r) (good .k .0) (good .r .0) k first last j (wishesOf page h) wanting)
+      rw (alike-among (λ w. inWord w k) (has k) (suc (page .rules .n)) (drop j (bledWords page h)) (drop j (bleds (page .rules .n) (page .rules .k) (page .rules .r) (wishesOf page h)))
+      (alike-drop (λ w. inWord w k) (has k) j (bledWords page h) (bleds (page .rules .n) (page .rules .k) (page .rules .r) (wishesOf page h)) (words-alike page good k first h)))
+      (fair-anywhere (page .rules .n) (page .rules .k) (page .rules .r) (good .k .0) (good .r .0) k first last j (wishesOf page h) wanting)
 
   -- No cell is bled at more than R accepted samples in a row.
   pub not-over-R : (k : ℕ) → 1 ≤ k → (j : ℕ) (h : List Sample)
-      → lastAll (suc (page .r)) (λ w. inWord w k) (drop j (bledWords page h)) ≡ false
+      → lastAll (suc (page .rules .r)) (λ w. inWord w k) (drop j (bledWords page h)) ≡ false
   not-over-R k first j h =
-      alike-last (λ w. inWord w k) (has k) (suc (page .r)) (drop j (bledWords page h)) (drop j (bleds (page .n) (page .k) (page .r) (wishesOf page h)))
-      (alike-drop (λ w. inWord w k) (has k) j (bledWords page h) (bleds (page .n) (page .k) (page .r) (wishesOf page h)) (words-alike page good k first h))
-      ∙ never-over-R (page .n) (page .k) (page .r) k j (wishesOf page h)
+      alike-last (λ w. inWord w k) (has k) (suc (page .rules .r)) (drop j (bledWords page h)) (drop j (bleds (page .rules .n) (page .rules .k) (page .rules .r) (wishesOf page h)))
+      (alike-drop (λ w. inWord w k) (has k) j (bledWords page h) (bleds (page .rules .n) (page .rules .k) (page .rules .r) (wishesOf page h)) (words-alike page good k first h))
+      ∙ never-over-R (page .rules .n) (page .rules .k) (page .rules .r) k j (wishesOf page h)
 
   -- Never are two neighbours bled at once: bits i and i + 1 stand for cells i + 1 and i + 2.
   pub not-neighbours : (i j : ℕ) (h : List Sample) → hasBit (getD (bledWords page h) j 0) i ≡ true
       → hasBit (getD (bledWords page h) j 0) (suc i) ≡ true → ⊥
   unfolding bledAfter
   not-neighbours i j [] a b = clash a (has-zero i)
-  not-neighbours i zero (s ∷ h) a b = bled-apart (page .n) (page .k) (page .r) (some page good) (ten page good) (wishesOf page (s ∷ h)) i a b
+  not-neighbours i zero (s ∷ h) a b = bled-apart (page .rules .n) (page .rules .k) (page .rules .r) (some page good) (ten page good) (wishesOf page (s ∷ h)) i a b
   not-neighbours i (suc j) (s ∷ h) a b = not-neighbours i j h a b
 
   -- Nor more than K cells.
-  pub not-over-K : (j : ℕ) (h : List Sample) → ones (getD (bledWords page h) j 0) ≤ page .k
+  pub not-over-K : (j : ℕ) (h : List Sample) → ones (getD (bledWords page h) j 0) ≤ page .rules .k
   unfolding bledAfter ones onesIn
   not-over-K j [] = omega arith
-  not-over-K zero (s ∷ h) = bled-few (page .n) (page .k) (page .r) (wishesOf page (s ∷ h))
+  not-over-K zero (s ∷ h) = bled-few (page .rules .n) (page .rules .k) (page .rules .r) (wishesOf page (s ∷ h))
   not-over-K (suc j) (s ∷ h) = not-over-K j h
 
 -- The same for every accepted page and all events since its load.
@@ -150,18 +150,18 @@ module _ (bytes : List ℕ) (taken : judged bytes ≡ Accepted) (es : List Event
   abbrev samples : List Sample
   samples = pastAfter bytes es .history
 
-  pub demand-3-wait : (k : ℕ) → 1 ≤ k → k ≤ said .n → (j : ℕ)
-      → lastAll (suc (said .n)) (wantsCell k) (drop j (wishesOf said samples)) ≡ true
-      → 0 < among (suc (said .n)) (λ w. inWord w k) (drop j (bledWords said samples))
+  pub demand-3-wait : (k : ℕ) → 1 ≤ k → k ≤ said .rules .n → (j : ℕ)
+      → lastAll (suc (said .rules .n)) (wantsCell k) (drop j (wishesOf said samples)) ≡ true
+      → 0 < among (suc (said .rules .n)) (λ w. inWord w k) (drop j (bledWords said samples))
   demand-3-wait k first last j = fair said good k first last j samples
 
   pub demand-3-run : (k : ℕ) → 1 ≤ k → (j : ℕ)
-      → lastAll (suc (said .r)) (λ w. inWord w k) (drop j (bledWords said samples)) ≡ false
+      → lastAll (suc (said .rules .r)) (λ w. inWord w k) (drop j (bledWords said samples)) ≡ false
   demand-3-run k first j = not-over-R said good k first j samples
 
   pub demand-3-neighbours : (i j : ℕ) → hasBit (getD (bledWords said samples) j 0) i ≡ true
       → hasBit (getD (bledWords said samples) j 0) (suc i) ≡ true → ⊥
   demand-3-neighbours i j = not-neighbours said good i j samples
 
-  pub demand-3-most : (j : ℕ) → ones (getD (bledWords said samples) j 0) ≤ said .k
+  pub demand-3-most : (j : ℕ) → ones (getD (bledWords said samples) j 0) ≤ said .rules .k
   demand-3-most j = not-over-K said good j samples

@@ -175,7 +175,7 @@ wishes-alone page k first last (s ∷ h) c =
 
 -- A pack of two cells, after any events: a cell that wants at two accepted samples in a row, j samples before the latest, is bled in at
 -- least one of them.
-pub two-suffice : (bytes : List ℕ) → judged bytes ≡ Accepted → pageOf bytes .n ≡ 2 → (es : List Event) (k : ℕ) → 1 ≤ k → k ≤ 2 → (j : ℕ)
+pub two-suffice : (bytes : List ℕ) → judged bytes ≡ Accepted → pageOf bytes .rules .n ≡ 2 → (es : List Event) (k : ℕ) → 1 ≤ k → k ≤ 2 → (j : ℕ)
     → lastAll 2 (wantsCell k) (drop j (wishesOf (pageOf bytes) (pastAfter bytes es .history))) ≡ true
     → 0 < among 2 (λ w. inWord w k) (drop j (bledWords (pageOf bytes) (pastAfter bytes es .history)))
 two-suffice bytes taken pair es k first last j wanting =
@@ -183,9 +183,9 @@ two-suffice bytes taken pair es k first last j wanting =
     let good : Good page = rw (page-accepted bytes taken) (accepted-good bytes taken) in
     let h = pastAfter bytes es .history in
     let ws = wishesOf page h in
-    let counts : Counts 2 h = subst (λ (n : ℕ). Counts n h) pair (history-counts (page .n) es) in
-    rw (alike-among (λ w. inWord w k) (has k) 2 (drop j (bledWords page h)) (drop j (bleds (page .n) (page .k) (page .r) ws))
-    (alike-drop (λ w. inWord w k) (has k) j (bledWords page h) (bleds (page .n) (page .k) (page .r) ws) (words-alike page good k first h)))
-    (subst (λ (n : ℕ). 0 < among 2 (has k) (drop j (bleds n (page .k) (page .r) ws))) (sym pair)
-    (subst (λ (l : List (List ℕ)). 0 < among 2 (has k) l) (bleds-drop 2 (page .k) (page .r) j ws)
-    (two 2 (page .k) (page .r) k (good .k .0) (good .r .0) first last (drop j ws) (alone-drop 2 k j ws (wishes-alone page k first last h counts)) wanting)))
+    let counts : Counts 2 h = subst (λ (n : ℕ). Counts n h) pair (history-counts (page .rules .n) es) in
+    rw (alike-among (λ w. inWord w k) (has k) 2 (drop j (bledWords page h)) (drop j (bleds (page .rules .n) (page .rules .k) (page .rules .r) ws))
+    (alike-drop (λ w. inWord w k) (has k) j (bledWords page h) (bleds (page .rules .n) (page .rules .k) (page .rules .r) ws) (words-alike page good k first h)))
+    (subst (λ (n : ℕ). 0 < among 2 (has k) (drop j (bleds n (page .rules .k) (page .rules .r) ws))) (sym pair)
+    (subst (λ (l : List (List ℕ)). 0 < among 2 (has k) l) (bleds-drop 2 (page .rules .k) (page .rules .r) j ws)
+    (two 2 (page .rules .k) (page .rules .r) k (good .k .0) (good .r .0) first last (drop j ws) (alone-drop 2 k j ws (wishes-alone page k first last h counts)) wanting)))

@@ -8,6 +8,8 @@ use Rattle.guard.proofs.measured.Reads as measured
 use Rattle.guard.proofs.measured.Kinds as measured-kinds
 use Rattle.guard.proofs.step_one.Reads as step-one
 use Rattle.guard.proofs.step_one.Kinds as step-one-kinds
+use Rattle.guard.proofs.looked_at.Reads as looked-at
+use Rattle.guard.proofs.looked_at.Kinds as looked-at-kinds
 use Rattle.guard.proofs.step_all.Reads as step-all
 use Rattle.guard.proofs.step_all.Kinds as step-all-kinds
 use Rattle.guard.proofs.fresh.Reads as fresh
@@ -42,3 +44,6 @@ any-raised-one κs a x y s t p q = p ∙ sym q
 
 blocks-one : Unique 0 blocks-kinds.ps blocks-kinds.r blocks.Post
 blocks-one κs a x y s t p q = p ∙ sym q
+
+looked-at-one : Unique 0 looked-at-kinds.ps looked-at-kinds.r looked-at.Post
+looked-at-one κs a x y s t p q = p ∙ sym q

@@ -76,7 +76,7 @@ module _ (page : Settings) (p : Past) where
   pub mode-is : modeOf (stateOf page p) ≡ modeAfter page (p .history)
   unfolding modeOf modeAfter stateOf
   mode-is =
-      let other : ℕ = flowMode (isCharging (page .detection) (latestOf (p .history) .current)) in
+      let other : ℕ = flowMode (isCharging (page .rules .detection) (latestOf (p .history) .current)) in
       ap (λ (m : ℕ). cond (anySample (p .history)) m 0)
       (ap (λ (w : ℕ). firstMode (hasBit w) modeOrder other) (raisedBits-is (page .limits) (p .history))
       ∙ mode-same (hasBit (raisedWord (page .limits) (p .history))) (raisedAfter (page .limits) (p .history)) modeOrder other order-inside

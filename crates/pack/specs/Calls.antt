@@ -25,12 +25,12 @@ use Rattle.pack.specs.Steps.{state-next, state-ready, state-fresh}
 
 -- ---- a pack that accepts anything has an accepted page
 
-page-with : (v : Verdict) (bytes : List ℕ) → judged bytes ≡ v → 0 < loadedWith v bytes .settings .n → Good (loadedWith v bytes .settings)
+page-with : (v : Verdict) (bytes : List ℕ) → judged bytes ≡ v → 0 < loadedWith v bytes .settings .rules .n → Good (loadedWith v bytes .settings)
 unfolding noSettings
 page-with Accepted bytes e h = accepted-good bytes e
 page-with (Refused k w) bytes e h = absurd (omega arith)
 
-pub page-good : (bytes : List ℕ) → 0 < pageOf bytes .n → Good (pageOf bytes)
+pub page-good : (bytes : List ℕ) → 0 < pageOf bytes .rules .n → Good (pageOf bytes)
 unfolding loadedOf
 page-good bytes h = page-with (judged bytes) bytes refl h
 
@@ -50,20 +50,20 @@ sample-some n s = some-if n (sampleVerdict n s) (λ z. ap accepts (sample-none n
 
 -- Offering a sample.
 pub offered-is : (bytes : List ℕ) (es : List Event) (s : Sample)
-    → offered (stateAfter bytes es) s ≡ answered (sampleVerdict (pageOf bytes .n) s) (stateAfter bytes (offer s ∷ es))
+    → offered (stateAfter bytes es) s ≡ answered (sampleVerdict (pageOf bytes .rules .n) s) (stateAfter bytes (offer s ∷ es))
 unfolding offered stateAfter stateOf pastOf withEvent
 offered-is bytes es s =
-    by-test (accepts (sampleVerdict (pageOf bytes .n) s))
-    (λ t. rw t (ap (answered (sampleVerdict (pageOf bytes .n) s))
-    (state-next (pageOf bytes) (page-good bytes (sample-some (pageOf bytes .n) s t)) (pastAfter bytes es) (trimmed s))))
+    by-test (accepts (sampleVerdict (pageOf bytes .rules .n) s))
+    (λ t. rw t (ap (answered (sampleVerdict (pageOf bytes .rules .n) s))
+    (state-next (pageOf bytes) (page-good bytes (sample-some (pageOf bytes .rules .n) s t)) (pastAfter bytes es) (trimmed s))))
     (λ t. rw t)
 
 -- Commanding the switches.
 pub commanded-is : (bytes : List ℕ) (es : List Event) (c : ℕ)
-    → commanded (stateAfter bytes es) c ≡ answered (commandVerdict (pageOf bytes .n) c) (stateAfter bytes (command c ∷ es))
+    → commanded (stateAfter bytes es) c ≡ answered (commandVerdict (pageOf bytes .rules .n) c) (stateAfter bytes (command c ∷ es))
 unfolding commanded withCommand stateAfter stateOf pastOf withEvent
 commanded-is bytes es c =
-    by-test (accepts (commandVerdict (pageOf bytes .n) c)) (λ t. rw t) (λ t. rw t)
+    by-test (accepts (commandVerdict (pageOf bytes .rules .n) c)) (λ t. rw t) (λ t. rw t)
 
 -- ---- what each call hands on
 
@@ -91,8 +91,8 @@ kept-command p c k =
 pub kept-ready : (p : Pack) (s : Sample) → Kept p → sampleVerdict (p .rules .n) s ≡ Accepted → Ready p
 unfolding stateAfter stateOf
 kept-ready p s k e =
-    let same : sampleVerdict (pageOf (k .bytes) .n) s ≡ Accepted = sym (ap (λ (q : Pack). sampleVerdict (q .rules .n) s) (k .is)) ∙ e in
-    rw (k .is) (state-ready (pageOf (k .bytes)) (page-good (k .bytes) (sample-some (pageOf (k .bytes) .n) s (ap accepts same))) (pastAfter (k .bytes) (k .events)))
+    let same : sampleVerdict (pageOf (k .bytes) .rules .n) s ≡ Accepted = sym (ap (λ (q : Pack). sampleVerdict (q .rules .n) s) (k .is)) ∙ e in
+    rw (k .is) (state-ready (pageOf (k .bytes)) (page-good (k .bytes) (sample-some (pageOf (k .bytes) .rules .n) s (ap accepts same))) (pastAfter (k .bytes) (k .events)))
 
 -- ---- the ends of the calls, in the code's own terms
 

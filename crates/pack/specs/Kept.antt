@@ -18,7 +18,7 @@ pageOf bytes = loadedOf bytes .settings
 
 -- What counts of the events since the page was loaded.
 abbrev pub pastAfter : List ℕ → List Event → Past
-pastAfter bytes es = pastOf (pageOf bytes .n) es
+pastAfter bytes es = pastOf (pageOf bytes .rules .n) es
 
 -- The state after a load of these bytes and these events, the latest first, refused ones among them.
 unfoldable pub stateAfter : List ℕ → List Event → Pack

@@ -56,7 +56,7 @@ flowMode charge = cond charge 0x03 0x02
 unfoldable pub modeAfter : Settings → List Sample → ℕ
 modeAfter page h =
     cond (anySample h)
-    (firstMode (raisedAfter (page .limits) h) modeOrder (flowMode (isCharging (page .detection) (latestOf h .current))))
+    (firstMode (raisedAfter (page .limits) h) modeOrder (flowMode (isCharging (page .rules .detection) (latestOf h .current))))
     0
 
 -- ---- a line of the replay

@@ -17,40 +17,26 @@ use Rattle.guard.specs.Steps.{protectionsOf, stepAll, AllWithin}
 use Rattle.guard.specs.Words.{someRaised, anyRaised}
 use Rattle.page.specs.declared.Verdict.{Verdict}
 use Rattle.page.specs.declared.Verdict.the-variants.{Accepted, Refused}
+use Rattle.settings.specs.declared.Rules.{Rules}
 use Rattle.settings.specs.declared.Settings.{Settings}
 use Rattle.bleed.specs.Wants.{isCharging}
 use Rattle.bleed.specs.Steps.{wishes, wantingWord, restingWord, chosenWord, nextCell, nextRuns, CellOf}
 use Rattle.bleed.specs.History.{bleds, resting, startCell}
 use Rattle.bleed.specs.Word.{wordTo}
 use Rattle.bleed.specs.Balance.{runsOf, bledWord}
-use Rattle.pack.specs.declared.Rules.{Rules}
 use Rattle.pack.specs.declared.Balance.{Balance}
 use Rattle.pack.specs.declared.Pack.{Pack}
 use Rattle.pack.specs.declared.Answered.{Answered}
 use Rattle.samples.specs.Samples.{sampleVerdict, commandVerdict, trimmed}
 use Rattle.pack.specs.Events.{Past, past, accepts}
 
--- What the page says, but for the protections' limits.
-abbrev pub rulesOf : Settings → Rules
-rulesOf page =
-    record {
-      n = page .n;
-      k = page .k;
-      r = page .r;
-      floor = page .floor;
-      difference = page .difference;
-      detection = page .detection;
-      voltage = page .voltage;
-      current = page .current;
-    }
-
 -- ---- from the page and the history
 
 -- Which cells want bleeding at the latest sample s of a history: "protections first, then bleeding with the new protections".
 unfoldable pub wishAt : Settings → Sample → List Sample → ℕ → Bool
 wishAt page s h =
-    wishes (isCharging (page .detection) (s .current)) (someRaised (page .limits) (s ∷ h)) (page .floor .0)
-    (page .difference .0) (extremesOf (s .cells) (s .count) .lowest .0) (s .cells)
+    wishes (isCharging (page .rules .detection) (s .current)) (someRaised (page .limits) (s ∷ h)) (page .rules .floor .0)
+    (page .rules .difference .0) (extremesOf (s .cells) (s .count) .lowest .0) (s .cells)
 
 -- Which cells wanted at each sample of a history.
 unfoldable pub wishesOf : Settings → List Sample → List (ℕ → Bool)
@@ -73,13 +59,13 @@ anySample (s ∷ h) = true
 module _ (page : Settings) where
   -- n, K and R of the page.
   abbrev n : ℕ
-  n = page .n
+  n = page .rules .n
 
   abbrev K : ℕ
-  K = page .k
+  K = page .rules .k
 
   abbrev R : ℕ
-  R = page .r
+  R = page .rules .r
 
   -- The word of the cells that rested at the latest sample; none before the first.
   unfoldable pub restedAfter : List Sample → ℕ
@@ -105,7 +91,7 @@ module _ (page : Settings) where
   unfoldable pub stateOf : Past → Pack
   stateOf p =
       record {
-        rules = rulesOf page;
+        rules = page .rules;
         protections = protectionsOf (page .limits) (p .history);
         balance = balanceAfter (p .history);
         latest = latestOf (p .history);
@@ -166,7 +152,7 @@ acceptedPack p s =
 unfoldable pub freshPack : Settings → Pack
 freshPack page =
     record {
-      rules = rulesOf page;
+      rules = page .rules;
       protections = protectionsOf (page .limits) [];
       balance = freshBalance;
       latest = noSample;

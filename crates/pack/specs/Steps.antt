@@ -25,11 +25,11 @@ use Rattle.bleed.specs.Word.{wordTo}
 use Rattle.bleed.specs.Steps.{wantingWord, restingWord, rested, chosenWord, nextCell, nextRuns, CellOf, wishes, tenAtMost}
 use Rattle.bleed.specs.StepLaws.{ten-is}
 use Rattle.bleed.specs.Balance.{runsOf, bledWord, Shows, wanting-shows, start-cell, next-start-is, rested-is, choose-is, runs-are}
-use Rattle.pack.specs.declared.Rules.{Rules}
+use Rattle.settings.specs.declared.Rules.{Rules}
 use Rattle.pack.specs.declared.Balance.{Balance}
 use Rattle.pack.specs.declared.Pack.{Pack}
 use Rattle.pack.specs.Events.{Past, past}
-use Rattle.pack.specs.State.{rulesOf, wishAt, wishesOf, restedAfter, bledAfter, balanceAfter, stateOf, nextTick, nextBalance, wantWith, wantAt, Ready, acceptedPack, freshBalance, freshPack}
+use Rattle.pack.specs.State.{wishAt, wishesOf, restedAfter, bledAfter, balanceAfter, stateOf, nextTick, nextBalance, wantWith, wantAt, Ready, acceptedPack, freshBalance, freshPack}
 
 -- ---- the tick
 
@@ -75,13 +75,13 @@ pack-same ep eb et = cc
 -- ---- what an accepted page gives
 
 module _ (page : Settings) (good : Good page) where
-  some : 1 ≤ page .n
+  some : 1 ≤ page .rules .n
   some = let h = good .n in omega arith
 
-  ten : page .n ≤ 10
+  ten : page .rules .n ≤ 10
   ten = good .n .1
 
-  short : page .r < 255
+  short : page .rules .r < 255
   short = let h = good .r in omega arith
 
   pub limits-good : AllGood (page .limits)
@@ -93,37 +93,37 @@ module _ (page : Settings) (good : Good page) where
 
   -- The wanting word of the code shows who wants.
   want-shows : (s : Sample) (h : List Sample)
-      → Shows (page .n) (wantAt (rulesOf page) s (protectionsOf (page .limits) (s ∷ h))) (wishAt page s h)
+      → Shows (page .rules .n) (wantAt (page .rules) s (protectionsOf (page .limits) (s ∷ h))) (wishAt page s h)
   unfolding wantWith wishAt
-  want-shows s h = rw (anyRaised-is (page .limits) (s ∷ h)) (wanting-shows (page .n) _ _ _ _ _ (s .cells) ten)
+  want-shows s h = rw (anyRaised-is (page .limits) (s ∷ h)) (wanting-shows (page .rules .n) _ _ _ _ _ (s .cells) ten)
 
   -- Who rests by the counters is who rests by the history.
   rested-word : (ws : List (ℕ → Bool))
-      → restingWord (page .n) (page .r) (runsOf (page .n) (page .k) (page .r) ws)
-      ≡ wordTo (page .n) (resting (page .r) (bleds (page .n) (page .k) (page .r) ws))
+      → restingWord (page .rules .n) (page .rules .r) (runsOf (page .rules .n) (page .rules .k) (page .rules .r) ws)
+      ≡ wordTo (page .rules .n) (resting (page .rules .r) (bleds (page .rules .n) (page .rules .k) (page .rules .r) ws))
   unfolding restingWord
   rested-word ws =
-      rw (ten-is (page .n) ten) (word-same (page .n) _ _ (λ k a b. rested-is (page .n) (page .k) (page .r) ws k a (let t = ten in omega arith)))
+      rw (ten-is (page .rules .n) ten) (word-same (page .rules .n) _ _ (λ k a b. rested-is (page .rules .n) (page .rules .k) (page .rules .r) ws k a (let t = ten in omega arith)))
 
   -- One step of bleeding.
-  balance-next : (s : Sample) (h : List Sample) (want : ℕ) → Shows (page .n) want (wishAt page s h)
-      → nextBalance (rulesOf page) want (balanceAfter page h) ≡ balanceAfter page (s ∷ h)
+  balance-next : (s : Sample) (h : List Sample) (want : ℕ) → Shows (page .rules .n) want (wishAt page s h)
+      → nextBalance (page .rules) want (balanceAfter page h) ≡ balanceAfter page (s ∷ h)
   unfolding nextBalance balanceAfter restedAfter bledAfter wishesOf
   balance-next s h want shows =
       let ws = wishesOf page h in
       let same : length h ≡ length ws = sym (wishes-length page h) in
       let begun : suc (length h) - 1 ≡ length h = omega arith in
-      let who : restingWord (page .n) (page .r) (runsOf (page .n) (page .k) (page .r) ws) ≡ wordTo (page .n) (resting (page .r) (bleds (page .n) (page .k) (page .r) ws)) =
+      let who : restingWord (page .rules .n) (page .rules .r) (runsOf (page .rules .n) (page .rules .k) (page .rules .r) ws) ≡ wordTo (page .rules .n) (resting (page .rules .r) (bleds (page .rules .n) (page .rules .k) (page .rules .r) ws)) =
       rested-word ws in
-      let chose = choose-is (page .n) (page .k) (page .r) some ten (wishAt page s h) ws want shows in
-      let runs = runs-are (page .n) (page .k) (page .r) some ten (wishAt page s h) ws short in
-      let next = next-start-is (page .n) (length h) some in
+      let chose = choose-is (page .rules .n) (page .rules .k) (page .rules .r) some ten (wishAt page s h) ws want shows in
+      let runs = runs-are (page .rules .n) (page .rules .k) (page .rules .r) some ten (wishAt page s h) ws short in
+      let next = next-start-is (page .rules .n) (length h) some in
       balance-same
-      (ap (λ (x : ℕ). record { 0 = startCell (page .n) x }) (sym begun))
+      (ap (λ (x : ℕ). record { 0 = startCell (page .rules .n) x }) (sym begun))
       who
-      (ap (chosenWord (page .n) (page .k) want (restingWord (page .n) (page .r) (runsOf (page .n) (page .k) (page .r) ws))) (ap (startCell (page .n)) same) ∙ chose)
+      (ap (chosenWord (page .rules .n) (page .rules .k) want (restingWord (page .rules .n) (page .rules .r) (runsOf (page .rules .n) (page .rules .k) (page .rules .r) ws))) (ap (startCell (page .rules .n)) same) ∙ chose)
       (ap (λ (x : ℕ). record { 0 = x }) next)
-      (ap (λ (x : ℕ). nextRuns x (runsOf (page .n) (page .k) (page .r) ws)) (ap (chosenWord (page .n) (page .k) want (restingWord (page .n) (page .r) (runsOf (page .n) (page .k) (page .r) ws))) (ap (startCell (page .n)) same) ∙ chose) ∙ runs)
+      (ap (λ (x : ℕ). nextRuns x (runsOf (page .rules .n) (page .rules .k) (page .rules .r) ws)) (ap (chosenWord (page .rules .n) (page .rules .k) want (restingWord (page .rules .n) (page .rules .r) (runsOf (page .rules .n) (page .rules .k) (page .rules .r) ws))) (ap (startCell (page .rules .n)) same) ∙ chose) ∙ runs)
 
   -- ---- the whole state
 
@@ -135,15 +135,15 @@ module _ (page : Settings) (good : Good page) where
       let h = p .history in
       let guarded = protections-step (page .limits) limits-good s h in
       pack-same guarded
-      (ap (λ (ps : List Protection). nextBalance (rulesOf page) (wantAt (rulesOf page) s ps) (balanceAfter page h)) guarded
-      ∙ balance-next s h (wantAt (rulesOf page) s (protectionsOf (page .limits) (s ∷ h))) (want-shows s h))
+      (ap (λ (ps : List Protection). nextBalance (page .rules) (wantAt (page .rules) s ps) (balanceAfter page h)) guarded
+      ∙ balance-next s h (wantAt (page .rules) s (protectionsOf (page .limits) (s ∷ h))) (want-shows s h))
       (tick-next (length h))
 
   -- So the step may be taken after any past.
   pub state-ready : (p : Past) → Ready (stateOf page p)
   unfolding stateOf balanceAfter
   state-ready p =
-      record { runs = protections-within (page .limits) limits-good (p .history); start = start-cell (page .n) (length (p .history)) some ten }
+      record { runs = protections-within (page .limits) limits-good (p .history); start = start-cell (page .rules .n) (length (p .history)) some ten }
 
 -- ---- at the load
 
@@ -156,4 +156,4 @@ pub state-fresh : (page : Settings) → freshPack page ≡ stateOf page (past []
 unfolding freshPack stateOf freshBalance balanceAfter restedAfter bledAfter wishesOf runsOf bledWord
 state-fresh page =
     let none : 0 - 1 ≡ 0 = omega arith in
-    rw (none, zero-mod (page .n))
+    rw (none, zero-mod (page .rules .n))

@@ -2,7 +2,7 @@
 ghost use mathlib.Core.Path.{_≡_};
 ghost use Rattle.laws.specs.Bits.{hasBit};
 ghost use Rattle.bleed.specs.Steps.{CellOf};
-ghost use Rattle.pack.specs.State.{rulesOf, noSample, nextTick, wantWith, freshBalance, nextBalance, Ready, freshPack, acceptedPack, offered, commanded};
+ghost use Rattle.pack.specs.State.{noSample, nextTick, wantWith, freshBalance, nextBalance, Ready, freshPack, acceptedPack, offered, commanded};
 ghost use Rattle.pack.specs.Kept.{Kept, afterLoad};
 ghost use Rattle.pack.specs.Shown.{switchOn, switchesOf, modeNumber, modeOrder, firstMode, flowMode, modeOf, decisionOf};
 use bleed::choose;
@@ -29,23 +29,12 @@ use protections::row_of;
 use samples::command_verdict;
 use samples::sample_verdict;
 use samples::trim;
+use settings::Rules;
 use settings::Settings;
 use units::CellNo;
 use units::DeciKelvin;
 use units::MilliVolts;
 use units::ProtectionNo;
-
-// What the page says, but for the protections' limits, which the protections hold.
-pub struct Rules {
-    pub n: u8,
-    pub k: u8,
-    pub r: u8,
-    pub floor: MilliVolts,
-    pub difference: MilliVolts,
-    pub detection: i16,
-    pub voltage: MilliVolts,
-    pub current: i16,
-}
 
 // What bleeding keeps: of the latest accepted sample its start cell, who rested and who was bled; for the next one the start
 // cell, and at how many samples in a row up to now each cell was bled. Bit k - 1 of a word stands for cell k.
@@ -57,7 +46,8 @@ pub struct Balance {
     pub runs: [u8; 10],
 }
 
-// The state of a pack. It does not grow with the history. Without a page n is 0, and every sample and command is refused.
+// The state of a pack: what the page says (its limits stand in the protections), and what was kept since. It does not grow with the
+// history. Without a page n is 0, and every sample and command is refused.
 pub struct Pack {
     pub rules: Rules,
     pub protections: [Protection; PROTECTIONS],
@@ -182,28 +172,10 @@ fn fresh_balance() -> Balance
     }
 }
 
-fn rules_of(s: Settings) -> Rules
-    ensures { λ r. ⌜ r ≡ rulesOf s ⌝ }
-{
-    let floor = s.floor;
-    let difference = s.difference;
-    let voltage = s.voltage;
-    Rules {
-        n: s.n,
-        k: s.k,
-        r: s.r,
-        floor: floor,
-        difference: difference,
-        detection: s.detection,
-        voltage: voltage,
-        current: s.current,
-    }
-}
-
 fn fresh_pack(s: Settings) -> Pack
     ensures { λ r. ⌜ r ≡ freshPack s ⌝ }
 {
-    let rules = rules_of(s);
+    let rules = s.rules;
     let limits = s.limits;
     let protections = fresh(limits);
     let balance = fresh_balance();

@@ -13,8 +13,9 @@ use Rattle.protections.specs.declared.Quantity.the-variants.{HighestCell, Lowes
 use Rattle.page.specs.Page.{wordAt, within, degreesFit, levelFits, levelOf, refusals, judged}
 use Rattle.page.specs.Worked.{workedPage, minus}
 use Rattle.page.specs.declared.Verdict.the-variants.{Accepted, Refused}
+use Rattle.settings.specs.declared.Rules.{Rules}
 use Rattle.settings.specs.declared.Settings.{Settings}
-use Rattle.settings.specs.Settings.{inDegrees, tripLevel, releaseLevel, limitsAt, limitsOf, settingsOf, noSettings, loadedOf}
+use Rattle.settings.specs.Settings.{inDegrees, tripLevel, releaseLevel, limitsAt, limitsOf, rulesOf, settingsOf, noSettings, loadedOf}
 
 -- ---- levels
 
@@ -43,8 +44,8 @@ levels-are = refl
 abbrev pub limits : ℤ → ℤ → ℕ → Limits
 limits trip release mask = record { trip = trip; release = release; n = 2; m = 2; mask = mask }
 
-abbrev pub worked : Settings
-worked =
+abbrev pub workedRules : Rules
+workedRules =
     record {
       n = 2;
       k = 1;
@@ -54,6 +55,12 @@ worked =
       detection = pos 100;
       voltage = record { 0 = 4200 };
       current = pos 1000;
+    }
+
+abbrev pub worked : Settings
+worked =
+    record {
+      rules = workedRules;
       limits =
           limits (pos 4250) (pos 4150) 1
           ∷ limits (pos 2500) (pos 2600) 2
@@ -67,10 +74,10 @@ worked =
     }
 
 pub worked-loaded : loadedOf workedPage ≡ record { verdict = Accepted; settings = worked }
-unfolding loadedOf settingsOf limitsOf limitsAt tripLevel releaseLevel inDegrees levelOf signedOf judged refusals wordAt within degreesFit levelFits rowAt table checkByte remainder withByte timesXs timesX
+unfolding loadedOf settingsOf rulesOf limitsOf limitsAt tripLevel releaseLevel inDegrees levelOf signedOf judged refusals wordAt within degreesFit levelFits rowAt table checkByte remainder withByte timesXs timesX
 worked-loaded = refl
 
 -- A refused page says nothing.
 none-loaded : loadedOf [] ≡ record { verdict = Refused 1 0; settings = noSettings }
-unfolding loadedOf settingsOf judged refusals wordAt within degreesFit levelFits levelOf signedOf rowAt table checkByte remainder
+unfolding loadedOf settingsOf rulesOf judged refusals wordAt within degreesFit levelFits levelOf signedOf rowAt table checkByte remainder
 none-loaded = refl

@@ -24,7 +24,7 @@ use Rattle.page.specs.Accepted.{InRange, Limited, accepted-ranges, accepted-lim
 use Rattle.page.specs.declared.Verdict.{Verdict}
 use Rattle.page.specs.declared.Verdict.the-variants.{Accepted, Refused}
 use Rattle.settings.specs.declared.Settings.{Settings}
-use Rattle.settings.specs.Settings.{inDegrees, tripLevel, releaseLevel, limitsAt, limitsOf, noLimits, settingsOf, loadedWith, loadedOf}
+use Rattle.settings.specs.Settings.{inDegrees, tripLevel, releaseLevel, limitsAt, limitsOf, noLimits, rulesOf, settingsOf, loadedWith, loadedOf}
 
 -- A number of low..high, where low is no less than 0.
 pub record Between (low high : ℕ) (z : ℤ) : Type 0 where
@@ -41,14 +41,14 @@ pub record GoodLimits (d : Direction) (l : Limits) : Type 0 where
   pub order : inOrder d (l .trip) (l .release) ≡ true
 
 pub record Good (s : Settings) : Type 0 where
-  pub n : (2 ≤ s .n) × (s .n ≤ 10)
-  pub k : (1 ≤ s .k) × (s .k ≤ 5)
-  pub r : (1 ≤ s .r) × (s .r ≤ 240)
-  pub floor : s .floor .0 ≤ 6000
-  pub difference : (1 ≤ s .difference .0) × (s .difference .0 ≤ 6000)
-  pub detection : Between 1 32767 (s .detection)
-  pub voltage : s .voltage .0 ≤ 6000
-  pub current : Between 0 32767 (s .current)
+  pub n : (2 ≤ s .rules .n) × (s .rules .n ≤ 10)
+  pub k : (1 ≤ s .rules .k) × (s .rules .k ≤ 5)
+  pub r : (1 ≤ s .rules .r) × (s .rules .r ≤ 240)
+  pub floor : s .rules .floor .0 ≤ 6000
+  pub difference : (1 ≤ s .rules .difference .0) × (s .rules .difference .0 ≤ 6000)
+  pub detection : Between 1 32767 (s .rules .detection)
+  pub voltage : s .rules .voltage .0 ≤ 6000
+  pub current : Between 0 32767 (s .rules .current)
   pub count : length (s .limits) ≡ protections
   pub each : (p : ℕ) → p < protections → GoodLimits (rowAt p .direction) (getD (s .limits) p noLimits)
 
@@ -117,7 +117,7 @@ signed-between low x h g = record { value = x; is = rw (lt-ltb x 32768 (omega ar
 
 -- The settings of an accepted page are good.
 pub accepted-good : (b : List ℕ) → judged b ≡ Accepted → Good (settingsOf b)
-unfolding settingsOf limitsAt
+unfolding settingsOf rulesOf limitsAt
 accepted-good b e =
     let r : InRange b = accepted-ranges b e in
     record {

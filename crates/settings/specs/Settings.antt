@@ -14,6 +14,7 @@ use Rattle.protections.specs.declared.Quantity.the-variants.{HighestCell, Lowes
 use Rattle.page.specs.Page.{wordAt, levelOf, tripWord, countFrom, judged}
 use Rattle.page.specs.declared.Verdict.{Verdict}
 use Rattle.page.specs.declared.Verdict.the-variants.{Accepted, Refused}
+use Rattle.settings.specs.declared.Rules.{Rules}
 use Rattle.settings.specs.declared.Settings.{Settings}
 use Rattle.settings.specs.declared.Loaded.{Loaded}
 
@@ -49,9 +50,9 @@ limitsAt b p =
 unfoldable pub limitsOf : List ℕ → List Limits
 limitsOf b = map (limitsAt b) (countFrom 0 protections)
 
--- What the page b says: its words 1 to 8, and its protections.
-unfoldable pub settingsOf : List ℕ → Settings
-settingsOf b =
+-- What the page b says in its words 1 to 8.
+unfoldable pub rulesOf : List ℕ → Rules
+rulesOf b =
     record {
       n = wordAt b 1;
       k = wordAt b 2;
@@ -61,15 +62,18 @@ settingsOf b =
       detection = signedOf (wordAt b 6);
       voltage = record { 0 = wordAt b 7 };
       current = signedOf (wordAt b 8);
-      limits = limitsOf b;
     }
+
+-- What the page b says: its words 1 to 8, and its protections.
+unfoldable pub settingsOf : List ℕ → Settings
+settingsOf b = record { rules = rulesOf b; limits = limitsOf b }
 
 -- What stands for the settings of a page that is refused.
 abbrev pub noLimits : Limits
 noLimits = record { trip = pos 0; release = pos 0; n = 0; m = 0; mask = 0 }
 
-unfoldable pub noSettings : Settings
-noSettings =
+abbrev pub noRules : Rules
+noRules =
     record {
       n = 0;
       k = 0;
@@ -79,8 +83,10 @@ noSettings =
       detection = pos 0;
       voltage = record { 0 = 0 };
       current = pos 0;
-      limits = replicate protections noLimits;
     }
+
+unfoldable pub noSettings : Settings
+noSettings = record { rules = noRules; limits = replicate protections noLimits }
 
 abbrev pub loadedWith : Verdict → List ℕ → Loaded
 loadedWith Accepted b = record { verdict = Accepted; settings = settingsOf b }

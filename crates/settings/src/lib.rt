@@ -3,7 +3,7 @@ ghost use mathlib.Core.Path.{_≡_};
 ghost use Prim.Native.Nat.{_≤_, _<_};
 ghost use Rattle.page.specs.Page.{wordAt, judged};
 ghost use Rattle.page.specs.declared.Verdict.the-variants.{Accepted};
-ghost use Rattle.settings.specs.Settings.{inDegrees, tripLevel, releaseLevel, limitsAt, noLimits, limitsOf, settingsOf, noSettings, loadedOf};
+ghost use Rattle.settings.specs.Settings.{inDegrees, tripLevel, releaseLevel, limitsAt, noLimits, limitsOf, rulesOf, settingsOf, noSettings, loadedOf};
 use page::Verdict;
 use protections::Direction;
 use protections::Limits;
@@ -13,9 +13,9 @@ use units::MilliVolts;
 use units::ProtectionNo;
 use units::signed_of;
 
-// The settings: cells n, most cells bled at once K, run limit R, balance floor and difference, charge detection current,
-// charging voltage per cell and charging current, and the limits of the eight protections.
-pub struct Settings {
+// The page's words 1 to 8: cells n, most cells bled at once K, run limit R, balance floor and difference, charge detection current,
+// charging voltage per cell and charging current.
+pub struct Rules {
     pub n: u8,
     pub k: u8,
     pub r: u8,
@@ -24,6 +24,11 @@ pub struct Settings {
     pub detection: i16,
     pub voltage: MilliVolts,
     pub current: i16,
+}
+
+// The settings: words 1 to 8, and the limits of the eight protections.
+pub struct Settings {
+    pub rules: Rules,
     pub limits: [Limits; 8],
 }
 
@@ -126,10 +131,10 @@ fn limits_of(page: &[u8]) -> [Limits; 8]
     all
 }
 
-// What an accepted page says.
-fn settings_of(page: &[u8]) -> Settings
+// What an accepted page says in its words 1 to 8.
+fn rules_of(page: &[u8]) -> Rules
     requires { ⌜ judged (now page) ≡ Accepted ⌝ }
-    ensures { λ r. ⌜ r ≡ settingsOf (now (page .entry)) ⌝ }
+    ensures { λ r. ⌜ r ≡ rulesOf (now (page .entry)) ⌝ }
 {
     let n = small(page, 1);
     let k = small(page, 2);
@@ -139,8 +144,7 @@ fn settings_of(page: &[u8]) -> Settings
     let detection = signed_of(page::word(page, 6));
     let voltage = MilliVolts(page::word(page, 7));
     let current = signed_of(page::word(page, 8));
-    let limits = limits_of(page);
-    Settings {
+    Rules {
         n: n,
         k: k,
         r: r,
@@ -149,6 +153,18 @@ fn settings_of(page: &[u8]) -> Settings
         detection: detection,
         voltage: voltage,
         current: current,
+    }
+}
+
+// What an accepted page says.
+fn settings_of(page: &[u8]) -> Settings
+    requires { ⌜ judged (now page) ≡ Accepted ⌝ }
+    ensures { λ r. ⌜ r ≡ settingsOf (now (page .entry)) ⌝ }
+{
+    let rules = rules_of(page);
+    let limits = limits_of(page);
+    Settings {
+        rules: rules,
         limits: limits,
     }
 }
@@ -159,7 +175,7 @@ fn no_settings() -> Settings
 {
     let none = no_limits();
     let limits = [none; 8];
-    Settings {
+    let rules = Rules {
         n: 0,
         k: 0,
         r: 0,
@@ -168,6 +184,9 @@ fn no_settings() -> Settings
         detection: 0,
         voltage: MilliVolts(0),
         current: 0,
+    };
+    Settings {
+        rules: rules,
         limits: limits,
     }
 }

@@ -4,9 +4,6 @@ use borrow.Author.Needs.{needs}
 use Rattle.pack.proofs.fresh_pack.Statement.{statement}
 use Rattle.pack.proofs.fresh_pack.Tie as tie
 
-rules-of-requires : tie.Need-rules-of-requires
-rules-of-requires c κs = search needs
-
 fresh-requires : tie.Need-fresh-requires
 fresh-requires c κs = search needs
 
@@ -18,9 +15,9 @@ no-sample-requires c κs = search needs
 
 returns : tie.Need-returns
 unfolding freshPack
-returns c = rw (c .no-sample .ensures, c .before .fresh-balance .ensures, c .before .before .fresh .ensures, c .before .before .before .before .rules-of .ensures)
+returns c = rw (c .no-sample .ensures, c .before .fresh-balance .ensures, c .before .before .fresh .ensures)
 
 pub fresh-pack-spec : {M : Type 1} → statement M
 fresh-pack-spec =
     tie.close
-    (tie.spec rules-of-requires fresh-requires fresh-balance-requires no-sample-requires returns)
+    (tie.spec fresh-requires fresh-balance-requires no-sample-requires returns)
