@@ -1,0 +1,78 @@
+-- Computed cases: document 01's starred frames, which commands are in the table, and the refusals 12 to 15.
+-- Assumes nothing.
+use mathlib.Core.Path.{_≡_, refl}
+use mathlib.Core.Bool.{Bool, true, false, cond}
+use mathlib.Core.List.{List, [], _∷_, map}
+use Prim.Native.Nat.{ℕ}
+use lib.ListN.{replicate}
+use Rattle.crc.specs.CheckByte.{checkByte, remainder, withByte, timesXs, timesX}
+use Rattle.units.specs.Signed.{wordOf}
+use Rattle.page.specs.Page.{countFrom}
+use Rattle.guard.specs.Cases.{minus, sampled}
+use Rattle.commands.specs.Table.{table, rowOf}
+use Rattle.bus.specs.Replies.{notInTable, cellAbove, replyRefusals, repliedFor, frameOf, bytesOf, answerOf}
+
+-- ---- (*) "Current -2 is sent as FE FF; -32768 as 00 80", with their check bytes
+
+pub starred-minus-2 : bytesOf (frameOf 0x0A (wordOf (minus 2))) ≡ (0xFE ∷ 0xFF ∷ 0x60 ∷ [])
+unfolding frameOf wordOf checkByte remainder withByte timesXs timesX
+starred-minus-2 = refl
+
+pub starred-minus-32768 : bytesOf (frameOf 0x0A (wordOf (minus 32768))) ≡ (0x00 ∷ 0x80 ∷ 0xD8 ∷ [])
+unfolding frameOf wordOf checkByte remainder withByte timesXs timesX
+starred-minus-32768 = refl
+
+-- ---- the table
+
+-- Which of the 256 commands are in the table.
+abbrev kept : List ℕ → List ℕ
+kept [] = []
+kept (c ∷ cs) = cond (notInTable (rowOf c)) (kept cs) (c ∷ kept cs)
+
+pub commands : kept (countFrom 0 256)
+    ≡ (0x08 ∷ 0x09 ∷ 0x0A ∷ 0x14 ∷ 0x15 ∷ 0x16 ∷ 0x30 ∷ 0x31 ∷ 0x32 ∷ 0x33 ∷ 0x34 ∷ 0x35 ∷ 0x36 ∷ 0x37 ∷ 0x38 ∷ 0x39 ∷ 0x41 ∷ 0x42 ∷ 0x44 ∷ 0x45 ∷ 0x46 ∷ [])
+unfolding rowOf table notInTable
+commands = refl
+
+-- ---- refusals
+
+-- The answers to some commands of a pack of n cells, at a buffer of `room` bytes.
+abbrev answers : ℕ → Bool → ℕ → List ℕ → List ℕ
+answers n sampled room cs = map (λ c. answerOf (repliedFor n sampled c room) .number) cs
+
+-- A command that is not in the table gives 12, whatever the buffer, before a sample and after one.
+pub not-in-table : answers 10 true 3 (0x3A ∷ 0x3F ∷ 0x40 ∷ 0x43 ∷ 0x47 ∷ 0x00 ∷ 0xFF ∷ []) ≡ replicate 7 12
+unfolding repliedFor replyRefusals rowOf table notInTable cellAbove
+not-in-table = refl
+
+pub not-in-table-first : answers 2 false 0 (0x3A ∷ 0x3F ∷ 0x40 ∷ 0x43 ∷ 0x47 ∷ 0x00 ∷ 0xFF ∷ []) ≡ replicate 7 12
+unfolding repliedFor replyRefusals rowOf table notInTable cellAbove
+not-in-table-first = refl
+
+-- A cell above n gives 13, also before a sample and whatever the buffer.
+pub cell-above : answers 4 true 3 (0x33 ∷ 0x34 ∷ 0x39 ∷ []) ≡ (0 ∷ 13 ∷ 13 ∷ [])
+unfolding repliedFor replyRefusals rowOf table notInTable cellAbove
+cell-above = refl
+
+pub cell-above-first : answers 4 false 2 (0x33 ∷ 0x34 ∷ 0x39 ∷ []) ≡ (14 ∷ 13 ∷ 13 ∷ [])
+unfolding repliedFor replyRefusals rowOf table notInTable cellAbove
+cell-above-first = refl
+
+-- A buffer of two bytes or of four gives 14, 0x41 before a sample too.
+pub wrong-buffer : answers 10 false 2 (0x41 ∷ 0x45 ∷ 0x30 ∷ []) ≡ (14 ∷ 14 ∷ 14 ∷ [])
+unfolding repliedFor replyRefusals rowOf table notInTable cellAbove
+wrong-buffer = refl
+
+pub long-buffer : answers 10 true 4 (0x41 ∷ 0x45 ∷ 0x30 ∷ []) ≡ (14 ∷ 14 ∷ 14 ∷ [])
+unfolding repliedFor replyRefusals rowOf table notInTable cellAbove
+long-buffer = refl
+
+-- Before the first sample 0x41 alone is answered.
+pub no-sample : answers 10 false 3 (0x41 ∷ 0x45 ∷ 0x30 ∷ 0x08 ∷ []) ≡ (0 ∷ 15 ∷ 15 ∷ 15 ∷ [])
+unfolding repliedFor replyRefusals rowOf table notInTable cellAbove
+no-sample = refl
+
+-- A pack without a page.
+pub no-page : answers 0 false 3 (0x41 ∷ 0x45 ∷ 0x30 ∷ 0x39 ∷ 0x3A ∷ []) ≡ (0 ∷ 15 ∷ 13 ∷ 13 ∷ 12 ∷ [])
+unfolding repliedFor replyRefusals rowOf table notInTable cellAbove
+no-page = refl

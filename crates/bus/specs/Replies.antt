@@ -1,0 +1,132 @@
+-- Replies: document 01's refusals 12 to 15, the three bytes of a word, and what stands in the lent buffer afterwards.
+-- Assumes nothing.
+use mathlib.Core.Path.{_≡_, refl}
+use mathlib.Core.Bool.{Bool, true, false, not, _&&_, true≢false}
+use mathlib.Core.List.{List, [], _∷_}
+use Prim.Native.Nat.{ℕ, _/_, _%_}
+use native.Mathlib.Omega.{arith}
+use borrow.Author.Tests.{eqb-true}
+use lib.Dec.{eqb, ltb}
+use lib.ListN.{length, set}
+use Rattle.laws.specs.Tests.{by-test}
+use Rattle.crc.specs.CheckByte.{checkByte}
+use Rattle.page.specs.Refusals.{rule, Refusal, refusal, Answer, answer, first}
+use Rattle.settings.specs.declared.Settings.{Settings}
+use Rattle.pack.specs.declared.Pack.{Pack}
+use Rattle.pack.specs.Events.{Past}
+use Rattle.pack.specs.State.{anySample}
+use Rattle.commands.specs.declared.Sends.{Sends}
+use Rattle.commands.specs.declared.Sends.the-variants.{Nothing, Cell, Whole}
+use Rattle.bus.specs.declared.Framed.{Framed}
+use Rattle.bus.specs.declared.Replied.{Replied}
+use Rattle.bus.specs.declared.Replied.the-variants.{Sent, Refused}
+use Rattle.bus.specs.declared.Told.{Told}
+use Rattle.bus.specs.declared.Told.the-variants.{Word, Refused as NotTold}
+use Rattle.commands.specs.Table.{rowOf}
+use Rattle.commands.specs.Words.{sentWord, wordAfter, saidOf}
+
+-- ---- refusals
+
+-- The number and the word of an answer: a refused reply names word 0, and a reply that is sent has number 0.
+abbrev pub answerOf : Replied → Answer
+answerOf Sent = answer 0 0
+answerOf (Refused number) = answer number 0
+
+-- "Command not in the table."
+unfoldable pub notInTable : Sends → Bool
+notInTable Nothing = true
+notInTable (Cell k) = false
+notInTable (Whole w) = false
+
+-- "Cell command for a cell above n."
+unfoldable pub cellAbove : ℕ → Sends → Bool
+cellAbove n Nothing = false
+cellAbove n (Cell k) = ltb n (k .0)
+cellAbove n (Whole w) = false
+
+-- A row of the table: its number is given if the test holds.
+abbrev givenIf : ℕ → Bool → Refusal
+givenIf number test = refusal number (rule 0 (not test) ∷ [])
+
+-- The rows for a command to a pack of n cells, with or without a sample, and a buffer of `room` bytes. In a pack without a page n is 0
+-- and there is no sample: each cell command gives 13, and 0x41 alone can be answered, with mode 0.
+unfoldable pub replyRefusals : ℕ → Bool → ℕ → ℕ → List Refusal
+replyRefusals n sampled c room =
+    givenIf 12 (notInTable (rowOf c))
+    ∷ givenIf 13 (cellAbove n (rowOf c))
+    ∷ givenIf 14 (not (eqb room 3))
+    ∷ givenIf 15 (not sampled && not (eqb c 0x41))
+    ∷ []
+
+-- The lowest number that applies is given; what no row fits is answered.
+unfoldable pub repliedFor : ℕ → Bool → ℕ → ℕ → Replied
+repliedFor n sampled c room = first (λ (number word : ℕ). Refused number) Sent (replyRefusals n sampled c room)
+
+-- ---- bytes
+
+-- "A reply is three bytes: low, high, and the check byte of 0x16, the command, 0x17, low, high."
+unfoldable pub frameOf : ℕ → ℕ → Framed
+frameOf c w =
+    let low : ℕ = w % 256 in
+    let high : ℕ = w / 256 in
+    record { low = low; high = high; check = checkByte (0x16 ∷ c ∷ 0x17 ∷ low ∷ high ∷ []) }
+
+abbrev pub bytesOf : Framed → List ℕ
+bytesOf f = f .low ∷ f .high ∷ f .check ∷ []
+
+-- What stands in the buffer b afterwards: the three bytes, or after a refusal what stood there before.
+abbrev pub bytesFor : Replied → Framed → List ℕ → List ℕ
+bytesFor Sent f b = bytesOf f
+bytesFor (Refused number) f b = b
+
+-- Only to a buffer of three bytes anything is sent.
+abbrev pub Fitting : Replied → List ℕ → Type 0
+Fitting r b = r ≡ Sent → length b ≡ 3
+
+-- ---- from the page and the past
+
+unfoldable pub repliedAfter : Settings → Past → ℕ → ℕ → Replied
+repliedAfter page p c room = repliedFor (page .rules .n) (anySample (p .history)) c room
+
+unfoldable pub bufferAfter : Settings → Past → ℕ → List ℕ → List ℕ
+bufferAfter page p c b = bytesFor (repliedAfter page p c (length b)) (frameOf c (wordAfter page p c)) b
+
+-- ---- from the state
+
+unfoldable pub repliedTo : Pack → ℕ → ℕ → Replied
+repliedTo p c room = repliedFor (p .rules .n) (p .sampled) c room
+
+unfoldable pub bytesAfter : Pack → ℕ → List ℕ → List ℕ
+bytesAfter p c b = bytesFor (repliedTo p c (length b)) (frameOf c (sentWord (saidOf p) (rowOf c))) b
+
+abbrev pub toldBy : Replied → ℕ → Told
+toldBy Sent w = Word w
+toldBy (Refused number) w = NotTold number
+
+unfoldable pub toldTo : Pack → ℕ → Told
+toldTo p c = toldBy (repliedTo p c 3) (sentWord (saidOf p) (rowOf c))
+
+-- ---- what the code needs of them
+
+-- Three bytes put into a buffer of three.
+pub three-put : (b : List ℕ) (x y z : ℕ) → length b ≡ 3 → set (set (set b 0 x) 1 y) 2 z ≡ x ∷ y ∷ z ∷ []
+three-put [] x y z e = absurd (omega arith)
+three-put (p ∷ []) x y z e = absurd (omega arith)
+three-put (p ∷ q ∷ []) x y z e = absurd (omega arith)
+three-put (p ∷ q ∷ r ∷ []) x y z e = refl
+three-put (p ∷ q ∷ r ∷ s ∷ b) x y z e = absurd (omega arith)
+
+pub sent-not : (number : ℕ) → Refused number ≡ Sent → ⊥
+sent-not number e = let z : true ≡ false = cc in true≢false z
+
+-- What is sent goes into a buffer of three bytes.
+pub sent-room : (n : ℕ) (sampled : Bool) (c room : ℕ) → repliedFor n sampled c room ≡ Sent → room ≡ 3
+unfolding repliedFor replyRefusals
+sent-room n sampled c room e =
+    by-test (eqb room 3)
+    (λ t. eqb-true room 3 t)
+    (λ t. absurd (by-test (notInTable (rowOf c))
+    (λ u. sent-not 12 (rw u at e))
+    (λ u. by-test (cellAbove n (rowOf c))
+    (λ v. sent-not 13 (rw (u, v) at e))
+    (λ v. sent-not 14 (rw (u, v, t) at e)))))

@@ -1,0 +1,131 @@
+// Replies on the bus: the three bytes of a word, and the reply to a command into a lent buffer.
+ghost use mathlib.Core.Path.{_≡_};
+ghost use lib.ListN.{length};
+ghost use Rattle.pack.specs.Kept.{Kept};
+ghost use Rattle.bus.specs.Replies.{notInTable, cellAbove, frameOf, bytesFor, Fitting, repliedTo, toldTo, bytesAfter};
+use commands::Sends;
+use commands::row_of_command;
+use commands::sent_word;
+use crc::check_byte;
+use pack::Pack;
+
+// The three bytes of a reply.
+pub struct Framed {
+    pub low: u8,
+    pub high: u8,
+    pub check: u8,
+}
+
+// The answer to a command: three bytes stand in the buffer, or it is refused.
+pub enum Replied {
+    Sent,
+    Refused { number: u8 },
+}
+
+// The word of a command by itself.
+pub enum Told {
+    Word(u16),
+    Refused { number: u8 },
+}
+
+// The three bytes of a command and a word.
+pub fn frame(command: u8, word: u16) -> Framed
+    ensures { λ r. ⌜ r ≡ frameOf command word ⌝ }
+{
+    let low = (word % 256) as u8;
+    let high = (word / 256) as u8;
+    let sent = [0x16, command, 0x17, low, high];
+    let check = check_byte(&sent);
+    Framed {
+        low: low,
+        high: high,
+        check: check,
+    }
+}
+
+// 12: the command is not in the table.
+fn not_in_table(row: Sends) -> bool
+    ensures { λ r. ⌜ r ≡ notInTable row ⌝ }
+{
+    match row {
+        Sends::Nothing => true,
+        Sends::Cell(_) => false,
+        Sends::Whole(_) => false,
+    }
+}
+
+// 13: it is a cell command for a cell above n.
+fn cell_above(n: u8, row: Sends) -> bool
+    ensures { λ r. ⌜ r ≡ cellAbove n row ⌝ }
+{
+    match row {
+        Sends::Nothing => false,
+        Sends::Cell(k) => n < k.0,
+        Sends::Whole(_) => false,
+    }
+}
+
+// The lowest of 12 to 15 that applies. In a pack without a page n is 0 and there is no sample: each cell command is 13, and of the
+// others 0x41 alone is answered, with mode 0.
+fn answer_to(p: Pack, command: u8, room: usize) -> Replied
+    ensures { λ r. ⌜ r ≡ repliedTo p command room ⌝ }
+{
+    let rules = p.rules;
+    let row = row_of_command(command);
+    if not_in_table(row) {
+        return Replied::Refused { number: 12 };
+    }
+    if cell_above(rules.n, row) {
+        return Replied::Refused { number: 13 };
+    }
+    if room != 3 {
+        return Replied::Refused { number: 14 };
+    }
+    if p.sampled {
+        return Replied::Sent;
+    }
+    if command == 0x41 {
+        return Replied::Sent;
+    }
+    Replied::Refused { number: 15 }
+}
+
+// The word of a command, where a buffer of three bytes would be answered with it.
+pub fn word_of_command(p: Pack, command: u8) -> Told
+    requires { ⌜ Kept p ⌝ }
+    ensures { λ r. ⌜ r ≡ toldTo p command ⌝ }
+{
+    let answer = answer_to(p, command, 3);
+    match answer {
+        Replied::Sent => Told::Word(sent_word(p, row_of_command(command))),
+        Replied::Refused { number } => Told::Refused { number: number },
+    }
+}
+
+// Puts the three bytes where the answer is `Sent`; a refusal leaves the buffer as it was.
+fn put(answer: Replied, f: Framed, out: &mut [u8])
+    requires { ⌜ Fitting answer (now out) ⌝ }
+    ensures { λ _. ⌜ now (out .exit) ≡ bytesFor answer f (now (out .entry)) ⌝ }
+{
+    match answer {
+        Replied::Sent => {
+            out[0] = f.low;
+            out[1] = f.high;
+            out[2] = f.check;
+        }
+        Replied::Refused { .. } => {}
+    }
+}
+
+// Answers a command into the lent buffer: refused with 12 to 15 and the buffer as it was, or its three bytes.
+pub fn reply(p: Pack, command: u8, out: &mut [u8]) -> Replied
+    requires { ⌜ Kept p ⌝ }
+    ensures { λ r. ⌜ r ≡ repliedTo p command (length (now (out .entry))) ⌝ }
+    ensures { λ r. ⌜ now (out .exit) ≡ bytesAfter p command (now (out .entry)) ⌝ }
+{
+    let answer = answer_to(p, command, out.len());
+    let word = sent_word(p, row_of_command(command));
+    let f = frame(command, word);
+    put(answer, f, out);
+    answer
+}

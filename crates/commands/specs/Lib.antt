@@ -1,0 +1,5 @@
+pub mod Table
+pub mod Words
+pub mod Bounds
+pub mod Demands
+pub mod Cases

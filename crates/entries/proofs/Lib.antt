@@ -1,0 +1,2 @@
+mod Unique
+pub mod Current

@@ -1,0 +1,66 @@
+-- `entries::read_first` meets its contract. Assumes nothing.
+use mir.Facts.{toZ-ofZ}
+use Rattle.entries.specs.Reading.{first-read}
+use mathlib.Core.Path.{sym, _∙_}
+use Rattle.entries.specs.Entry.{firstOf}
+use Rattle.entries.specs.Left.{left-none, left-next}
+use borrow.Author.Needs.{needs}
+use Rattle.entries.proofs.read_first.Statement.{statement}
+use Rattle.entries.proofs.read_first.Tie as tie
+
+no-entry-requires : tie.Need-no-entry-requires
+no-entry-requires c κs = search needs
+
+returns : tie.Need-returns
+unfolding firstOf
+returns c = c .no-entry .ensures ∙ sym (rw (left-none _ _ (c .before .if1 .taken)))
+
+field-requires : tie.Need-field-requires
+field-requires c κs = search needs
+
+read-number-requires : tie.Need-read-number-requires
+read-number-requires c κs = search needs
+
+enum-known-t1 : tie.Need-enum-known-t1
+enum-known-t1 c = search needs
+
+enum-told : tie.Need-enum-told
+enum-told c = search needs
+
+no-entry-requires-2 : tie.Need-no-entry-requires-2
+no-entry-requires-2 c κs = search needs
+
+returns-2 : tie.Need-returns-2
+unfolding firstOf
+returns-2 c =
+    c .no-entry2 .ensures ∙ sym (rw (left-next _ _ _ (c .before .before .before .before .field .ensures .0) (c .before .before .before .before .before .if1 .left), sym (c .before .before .before .read-number .ensures) ∙ c .before .enum-told .given .1))
+
+add-next : tie.Need-add-next
+add-next c = search needs
+
+add-next-2 : tie.Need-add-next-2
+add-next-2 c = search needs
+
+read-second-requires : tie.Need-read-second-requires
+read-second-requires c κs = search needs
+
+returns-3 : tie.Need-returns-3
+returns-3 c =
+    rw (toZ-ofZ (c .before .before .before .before .before .before .before .before .fits .current)) at (c .read-second .ensures) ∙ sym (first-read _ _ _ (c .before .before .before .before .before .field .ensures .0) (c .before .before .before .before .before .before .if1 .left) _ (c .before .before .t1 .given .0 .0) (sym (c .before .before .before .before .read-number .ensures) ∙ c .before .before .t1 .given .1))
+
+pub read-first-spec : {M : Type 1} → statement M
+read-first-spec =
+    tie.close
+    (tie.spec
+    no-entry-requires
+    returns
+    field-requires
+    read-number-requires
+    enum-known-t1
+    enum-told
+    no-entry-requires-2
+    returns-2
+    add-next
+    add-next-2
+    read-second-requires
+    returns-3)

@@ -1,0 +1,4 @@
+pub mod Entry
+pub mod Left
+pub mod Reading
+pub mod Cases

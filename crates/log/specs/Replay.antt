@@ -1,0 +1,208 @@
+-- THE REPLAY: what it writes for a page and a log, bytes to bytes; and the same for a log that is cut anywhere.
+-- Assumes nothing.
+use Prim.Native.Nat.{ℕ, _+_, _-_, _<_, _≤_}
+use mathlib.Core.Path.{_≡_, refl, sym, ap, ap₂, _∙_}
+use mathlib.Core.Bool.{Bool, true, false, cond}
+use mathlib.Core.List.{List, [], _∷_, _++_, append-assoc}
+use native.Mathlib.Omega.{arith}
+use lib.Dec.{ltb}
+use lib.ListN.{length, take, drop}
+use lib.Seq.{take-length}
+use borrow.Author.Tests.{le-ltb, lt-ltb, ltb-true, ltb-false}
+use Rattle.laws.specs.Tests.{by-test}
+use Rattle.text.specs.Placing.{Put}
+use Rattle.text.specs.Putting.{put-made, put-place, put-full-place}
+use Rattle.laws.specs.Tests.{by-order}
+use Rattle.lines.specs.Lines.{plain, lastLine}
+use Rattle.lines.specs.declared.LastLine.the-variants.{Line, Nothing}
+use Rattle.lines.specs.Carrying.{carriedOf, movedDown, carried-few}
+use Rattle.lines.specs.Walking.{Ended}
+use Rattle.lines.specs.Output as any
+use Rattle.lines.specs.Chunk as cut
+use Rattle.page.specs.declared.Verdict.{Verdict}
+use Rattle.page.specs.declared.Verdict.the-variants as verdict
+use Rattle.pack.specs.declared.Pack.{Pack}
+use Rattle.pack.specs.declared.Answered.{Answered}
+use Rattle.pack.specs.Kept.{afterLoad}
+use Rattle.log.specs.Told.{turnOf, turned, turn-overlong}
+use Rattle.log.specs.Texts.{textOf, openingText, headerText}
+use Rattle.log.specs.declared.Told.the-variants.{Refused}
+use Rattle.log.specs.declared.Turned.{Turned}
+use Rattle.log.specs.declared.Fed.{Fed}
+
+-- The pack behind a line, and the text that the line is answered with.
+abbrev pub nextOf : Pack → List ℕ → Pack
+nextOf p line = turnOf p line .pack
+
+abbrev pub answerOf : Pack → List ℕ → List ℕ
+answerOf p line = textOf (turnOf p line .told)
+
+-- "One line per log line": what a log is answered with, from a pack on.
+abbrev pub output : Pack → List ℕ → List ℕ
+output = any.output nextOf answerOf
+
+-- A refused page: its log is not looked at.
+abbrev pub linesAfter : Verdict → Pack → List ℕ → List ℕ
+linesAfter verdict.Accepted p log = output p log
+linesAfter (verdict.Refused number word) p log = []
+
+-- What the replay writes: the line of a refused page, or else the header, "then one line per log line".
+unfoldable pub replayed : List ℕ → List ℕ → List ℕ
+replayed page log =
+    openingText (afterLoad page .verdict) ++ linesAfter (afterLoad page .verdict) (afterLoad page .pack) log
+
+-- ---- a log that is cut anywhere
+
+-- The bytes of the longest answer.
+abbrev pub room : ℕ
+room = 35
+
+-- What is written into a buffer of size bytes: nothing where the longest answer has no room.
+unfoldable pub roomed : ℕ → List ℕ → List ℕ
+roomed size s = cond (ltb size room) [] s
+
+-- What the chunk function answers (crate lines, Chunk).
+abbrev pub Chunked : List ℕ → List ℕ → Pack → Bool → ℕ → ℕ → Pack → List ℕ → Type 0
+Chunked = cut.Chunked nextOf answerOf room
+
+-- What was read so far, and whatever follows, is answered by what was written and the answer to what is held and follows (crate
+-- lines, Output).
+abbrev pub Sofar : Pack → List ℕ → List ℕ → Pack → List ℕ → Type 0
+Sofar = any.Sofar nextOf answerOf
+
+-- What the feeding function answers for a buffer buf that is then buf′, and a buffer d for the answers that is then e: the chunk of its
+-- bytes, how many of them wait, and that these were moved to the front.
+pub record Went (buf d : List ℕ) (p : Pack) (r : Fed) (buf′ e : List ℕ) : Type 0 where
+  pub chunked : Chunked buf d p (r .done) (r .used) (r .written) (r .pack) e
+  pub held : r .held ≡ carriedOf (r .done) (length buf - r .used)
+  pub moved : buf′ ≡ movedDown buf (r .used) (r .held)
+  pub few : r .held ≤ length buf
+  pub wrote : r .written ≤ length e
+
+-- What the last line is answered with: nothing is no line.
+unfoldable pub lastAnswer : ℕ → Pack → List ℕ → List ℕ
+lastAnswer size p held = roomed size (any.lastText nextOf answerOf p held)
+
+-- What is written before the lines.
+pub record Opened (d : List ℕ) (v : Verdict) (written : ℕ) (e : List ℕ) : Type 0 where
+  pub put : Put d 0 (roomed (length d) (openingText v)) written e
+  pub fits : written ≤ length d
+
+-- ---- the laws of the run
+
+-- All lines over 128 bytes are answered alike.
+pub alike : any.Alike nextOf answerOf
+alike p l m h k =
+    let e : turnOf p l ≡ turnOf p m = turn-overlong p l h ∙ sym (turn-overlong p m k) in
+    (ap (λ (t : Turned). t .pack) e, ap (λ (t : Turned). textOf (t .told)) e)
+
+-- At the start nothing was read.
+pub sofar-start : (p : Pack) → Sofar p [] [] p []
+sofar-start = any.sofar-start nextOf answerOf
+
+-- A part was read behind what is held.
+pub sofar-read : (p₀ : Pack) (read o : List ℕ) (p : Pack) (held part : List ℕ)
+    → Sofar p₀ read o p held → Sofar p₀ (read ++ part) o p (held ++ part)
+sofar-read = any.sofar-read nextOf answerOf
+
+-- The bytes that waited were fed, and what was written goes behind what was written before.
+pub sofar-fed : (p₀ : Pack) (read o : List ℕ) (p : Pack) (buf d : List ℕ) (r : Fed) (buf′ e : List ℕ)
+    → Sofar p₀ read o p buf → Went buf d p r buf′ e
+    → Sofar p₀ read (o ++ take (r .written) e) (r .pack) (take (r .held) buf′)
+sofar-fed p₀ read o p buf d r buf′ e s w =
+    any.sofar-then nextOf answerOf p₀ read o p buf (take (r .written) e) (r .pack) (take (r .held) buf′) s
+    (rw (w .moved, w .held) (rw (take-length buf) at (cut.sofar-fed nextOf answerOf room alike buf (length buf) d p (r .done) (r .used)
+    (r .written) (r .pack) e (omega arith) (rw (take-length buf) (w .chunked)))))
+
+-- The end of the log: what was written, followed by the answer to the last line, is the answer to the whole log.
+pub sofar-last : (p₀ : Pack) (read o : List ℕ) (p : Pack) (held : List ℕ) (size : ℕ) → plain held ≡ true → room ≤ size
+    → Sofar p₀ read o p held → output p₀ read ≡ o ++ lastAnswer size p held
+unfolding lastAnswer roomed
+sofar-last p₀ read o p held size n h s =
+    rw (le-ltb size room h) (any.sofar-end nextOf answerOf p₀ read o p held n s)
+
+-- The whole: the header, what was written along the way, and the answer to the last line, wherever the log was cut.
+pub replayed-is : (page log o : List ℕ) (p : Pack) (held : List ℕ) (size : ℕ) → afterLoad page .verdict ≡ verdict.Accepted
+    → plain held ≡ true → room ≤ size → Sofar (afterLoad page .pack) log o p held
+    → replayed page log ≡ headerText ++ (o ++ lastAnswer size p held)
+unfolding replayed
+replayed-is page log o p held size a n h s =
+    rw a (ap (λ (z : List ℕ). headerText ++ z) (sofar-last (afterLoad page .pack) log o p held size n h s))
+
+-- A refused page gives its one line.
+pub replayed-refused : (page log : List ℕ) (number word : ℕ) → afterLoad page .verdict ≡ verdict.Refused number word
+    → replayed page log ≡ openingText (verdict.Refused number word) ++ []
+unfolding replayed
+replayed-refused page log number word a = rw a
+
+-- ---- what the code needs of them
+
+nothing-put : (d : List ℕ) → Put d 0 [] 0 d
+nothing-put d = put-made d 0 [] d (omega arith) refl
+
+-- No room.
+pub roomed-short : (d s : List ℕ) → length d < room → Put d 0 (roomed (length d) s) 0 d
+unfolding roomed
+roomed-short d s h = rw (lt-ltb (length d) room h) (nothing-put d)
+
+pub roomed-put : (d s : List ℕ) (r : ℕ) (e : List ℕ) → room ≤ length d → Put d 0 s r e → Put d 0 (roomed (length d) s) r e
+unfolding roomed
+roomed-put d s r e h p = rw (le-ltb (length d) room h) p
+
+-- What was put at the start ends inside.
+pub put-inside : {d s : List ℕ} {r : ℕ} {e : List ℕ} → Put d 0 s r e → r ≤ length d
+put-inside {d} {s} {r} {e} p =
+    by-order (length d) (0 + length s)
+    (λ h. let z = put-full-place p h in omega arith)
+    (λ h. let z = put-place p h in omega arith)
+
+pub opened : {d : List ℕ} {v : Verdict} {r : ℕ} {e : List ℕ} → Put d 0 (roomed (length d) (openingText v)) r e → Opened d v r e
+opened p = record { put = p; fits = put-inside p }
+
+module _ (d : List ℕ) (p : Pack) (held : List ℕ) where
+  pub last-short : length d < room → Put d 0 (lastAnswer (length d) p held) 0 d
+  unfolding lastAnswer
+  last-short h = roomed-short d (any.lastText nextOf answerOf p held) h
+
+  -- Nothing is left.
+  pub last-nothing : room ≤ length d → lastLine held 0 ≡ Nothing → Put d 0 (lastAnswer (length d) p held) 0 d
+  unfolding lastAnswer lastLine
+  last-nothing h e =
+      by-test (ltb 0 (length held))
+      (λ t. absurd (let q : Line ≡ Nothing = rw t at e in let z : _≡_ {A = ℕ} 0 1 = cc in omega arith))
+      (λ t.
+      let k = ltb-false 0 (length held) t in
+      roomed-put d (any.lastText nextOf answerOf p held) 0 d h (rw (any.last-silent nextOf answerOf p held (omega arith)) (nothing-put d)))
+
+  -- A line is left, and its answer t was put.
+  pub last-put : room ≤ length d → lastLine held 0 ≡ Line → (t : Turned) → t ≡ turnOf p held → (r : ℕ) (e : List ℕ)
+      → Put d 0 (textOf (t .told)) r e → Put d 0 (lastAnswer (length d) p held) r e
+  unfolding lastAnswer lastLine
+  last-put h e t et r o q =
+      by-test (ltb 0 (length held))
+      (λ s.
+      roomed-put d (any.lastText nextOf answerOf p held) r o h
+      (rw (any.last-answer nextOf answerOf p held (ltb-true 0 (length held) s), ← et) q))
+      (λ s. absurd (let c : Nothing ≡ Line = rw s at e in let z : _≡_ {A = ℕ} 0 1 = cc in omega arith))
+
+-- A buffer was fed.
+pub went : (buf d : List ℕ) (p : Pack) (r : Fed) (buf′ e : List ℕ)
+    → Chunked buf d p (r .done) (r .used) (r .written) (r .pack) e → r .held ≡ carriedOf (r .done) (length buf - r .used)
+    → buf′ ≡ movedDown buf (r .used) (r .held) → Went buf d p r buf′ e
+went buf d p r buf′ e c h m =
+    record {
+      chunked = c;
+      held = h;
+      moved = m;
+      few = let k = carried-few (r .done) (length buf - r .used) in omega arith;
+      wrote = c .fits;
+    }
+
+-- One answer more in a chunk.
+module _ (text d : List ℕ) (s : Pack) (at w : ℕ) (k : Pack) (o : List ℕ) (g : cut.Going nextOf answerOf room text d s at w k o) where
+  pub chunk-on : (end on : ℕ) → Ended text at end on → w + room ≤ length o → (t : Turned) → t ≡ turnOf k (take (end - at) (drop at text))
+      → (r : ℕ) (e : List ℕ) → length (textOf (t .told)) ≤ room → Put o w (textOf (t .told)) r e
+      → cut.Going nextOf answerOf room text d s on r (t .pack) e
+  chunk-on end on n h t et r e few p =
+      cut.going-on nextOf answerOf room text d s at w k o g end on n h (textOf (t .told)) (t .pack) r e few
+      (ap (λ (q : Turned). textOf (q .told)) et) (ap (λ (q : Turned). q .pack) et) p
