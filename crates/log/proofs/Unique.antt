@@ -84,9 +84,9 @@ feed-one κs a x y s t p q = fed-one _ _ _ x y _ _ _ _ (p .0) (q .0)
 
 -- ---- the start and the end
 
-last-one : (κs : Lfts 2) (a : Dens κs last-kinds.ps) (x y : resT last-kinds.r κs .Denot)
-    (s t : AtExit (endedOf 2 last-kinds.ps last-kinds.r) κs)
-    → last.Post κs a x s → last.Post κs a y t → (x ≡ y) × (s .1 .1 .0 .now ≡ t .1 .1 .0 .now)
+last-one : (κs : Lfts 1) (a : Dens κs last-kinds.ps) (x y : resT last-kinds.r κs .Denot)
+    (s t : AtExit (endedOf 1 last-kinds.ps last-kinds.r) κs)
+    → last.Post κs a x s → last.Post κs a y t → (x ≡ y) × (s .0 .now ≡ t .0 .now)
 last-one κs a x y s t p q = put-one (p .0) (q .0)
 
 begun-same : {v v' : Verdict} {k k' : Pack} {w w' : ℕ} → v ≡ v' → k ≡ k' → w ≡ w'

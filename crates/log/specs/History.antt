@@ -25,7 +25,7 @@ use Rattle.lines.specs.Output as any
 use Rattle.log.specs.declared.Told.{Told}
 use Rattle.log.specs.declared.Told.the-variants.{Decided, Refused}
 use Rattle.log.specs.declared.Turned.{Turned}
-use Rattle.log.specs.Told.{toldBy, turnedBy, turnAs, turnOf}
+use Rattle.log.specs.Told.{toldBy, answeredAs, turnedBy, turnOf}
 use Rattle.log.specs.Texts.{textOf, headerText}
 use Rattle.log.specs.Replay.{nextOf, answerOf, replayed}
 
@@ -67,7 +67,7 @@ module _ (page : List ℕ) where
   told-is (verdict.Refused number word) es = refl
 
   turn-is : (k : Kind) (es : List Event) (e : Entry)
-      → (turnAs k (after page es) e .told ≡ saysAs k es e) × (turnAs k (after page es) e .pack ≡ after page (withLine k e es))
+      → (turnedBy (answeredAs k (after page es) e) .told ≡ saysAs k es e) × (turnedBy (answeredAs k (after page es) e) .pack ≡ after page (withLine k e es))
   unfolding turnedBy offered commanded
   turn-is Offer es e = (
     told-is (sampleVerdict (after page es .rules .n) (e .sample)) (offer (e .sample) ∷ es)

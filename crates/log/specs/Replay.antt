@@ -3,20 +3,21 @@
 use Prim.Native.Nat.{ℕ, _+_, _-_, _<_, _≤_}
 use mathlib.Core.Path.{_≡_, refl, sym, ap, ap₂, _∙_}
 use mathlib.Core.Bool.{Bool, true, false, cond}
-use mathlib.Core.List.{List, [], _∷_, _++_, append-assoc}
+use mathlib.Core.List.{List, [], _∷_, _++_, append-nil}
+use native.Mathlib.Nat.{le-refl}
 use native.Mathlib.Omega.{arith}
-use lib.Dec.{ltb}
-use lib.ListN.{length, take, drop}
+use lib.Dec.{ltb, eqb}
+use lib.ListN.{length, take, drop, length-append, drop-of-length-le}
 use lib.Seq.{take-length}
-use borrow.Author.Tests.{le-ltb, lt-ltb, ltb-true, ltb-false}
+use borrow.Author.Tests.{le-ltb, lt-ltb, eqb-true, eqb-false, ne-eqb}
 use Rattle.laws.specs.Tests.{by-test}
+use Rattle.text.specs.Finding.{lacks}
 use Rattle.text.specs.Placing.{Put}
 use Rattle.text.specs.Putting.{put-made, put-place, put-full-place}
 use Rattle.laws.specs.Tests.{by-order}
-use Rattle.lines.specs.Lines.{plain, lastLine}
-use Rattle.lines.specs.declared.LastLine.the-variants.{Line, Nothing}
+use Rattle.lines.specs.Lines.{plain, linesOf}
 use Rattle.lines.specs.Carrying.{carriedOf, movedDown, carried-few}
-use Rattle.lines.specs.Walking.{Ended}
+use Rattle.lines.specs.Walking.{Ended, whole, whole-none, whole-line}
 use Rattle.lines.specs.Output as any
 use Rattle.lines.specs.Chunk as cut
 use Rattle.page.specs.declared.Verdict.{Verdict}
@@ -79,9 +80,9 @@ pub record Went (buf d : List ℕ) (p : Pack) (r : Fed) (buf′ e : List ℕ) : 
   pub few : r .held ≤ length buf
   pub wrote : r .written ≤ length e
 
--- What the last line is answered with: nothing is no line.
-unfoldable pub lastAnswer : ℕ → Pack → List ℕ → List ℕ
-lastAnswer size p held = roomed size (any.lastText nextOf answerOf p held)
+-- What the last line lacks, where held bytes are left at the end of the log: its newline. Nothing is no line.
+unfoldable pub closing : ℕ → List ℕ
+closing held = cond (eqb held 0) [] (10 ∷ [])
 
 -- What is written before the lines.
 pub record Opened (d : List ℕ) (v : Verdict) (written : ℕ) (e : List ℕ) : Type 0 where
@@ -114,20 +115,57 @@ sofar-fed p₀ read o p buf d r buf′ e s w =
     (rw (w .moved, w .held) (rw (take-length buf) at (cut.sofar-fed nextOf answerOf room alike buf (length buf) d p (r .done) (r .used)
     (r .written) (r .pack) e (omega arith) (rw (take-length buf) (w .chunked)))))
 
--- The end of the log: what was written, followed by the answer to the last line, is the answer to the whole log.
-pub sofar-last : (p₀ : Pack) (read o : List ℕ) (p : Pack) (held : List ℕ) (size : ℕ) → plain held ≡ true → room ≤ size
-    → Sofar p₀ read o p held → output p₀ read ≡ o ++ lastAnswer size p held
-unfolding lastAnswer roomed
-sofar-last p₀ read o p held size n h s =
-    rw (le-ltb size room h) (any.sofar-end nextOf answerOf p₀ read o p held n s)
+-- The end of the log: with its newline the last line is answered as it is without.
+pub output-closed : (p : Pack) (held : List ℕ) → plain held ≡ true → output p (held ++ closing (length held)) ≡ output p held
+unfolding closing any.output any.answers linesOf
+output-closed p held n =
+    by-test (eqb (length held) 0)
+    (λ t. rw t (ap (output p) (append-nil held)))
+    (λ t.
+    let k = eqb-false (length held) 0 t in
+    rw t
+    (any.output-line nextOf answerOf p held [] n ∙ append-nil (answerOf p held)
+    ∙ sym (any.output-last nextOf answerOf p held n ∙ any.last-answer nextOf answerOf p held (omega arith))))
 
--- The whole: the header, what was written along the way, and the answer to the last line, wherever the log was cut.
-pub replayed-is : (page log o : List ℕ) (p : Pack) (held : List ℕ) (size : ℕ) → afterLoad page .verdict ≡ verdict.Accepted
-    → plain held ≡ true → room ≤ size → Sofar (afterLoad page .pack) log o p held
-    → replayed page log ≡ headerText ++ (o ++ lastAnswer size p held)
+closed-used : (p : Pack) (held : List ℕ) (size : ℕ) → plain held ≡ true → room ≤ size
+    → cut.turns nextOf answerOf room size (cut.turned 0 [] p) (whole (held ++ closing (length held))) .used ≡ length (held ++ closing (length held))
+unfolding closing cut.turns lacks
+closed-used p held size n h =
+    by-test (eqb (length held) 0)
+    (λ t. let k = eqb-true (length held) 0 t in rw (t, append-nil held, whole-none held n, k))
+    (λ t. rw (t, whole-line held [] n, whole-none [] refl, le-ltb size (0 + room) h, length-append) (omega arith))
+
+-- Once it is fed too, nothing is left to answer,
+pub closed-fed : (p : Pack) (held d : List ℕ) (r : Fed) (buf′ e : List ℕ) → plain held ≡ true → room ≤ length d
+    → Went (held ++ closing (length held)) d p r buf′ e → output p held ≡ take (r .written) e
+unfolding closing any.output any.answers linesOf
+closed-fed p held d r buf′ e n h w =
+    sym (output-closed p held n)
+    ∙ ap (output p) (sym (append-nil (held ++ closing (length held))))
+    ∙ w .chunked .keeps []
+    ∙ ap (λ (z : List ℕ). take (r .written) e ++ output (r .pack) (z ++ [])) none-left
+    ∙ append-nil (take (r .written) e)
+  where
+    used-all : r .used ≡ length (held ++ closing (length held))
+    used-all = ap (λ (x : cut.Turned Pack). x .used) (w .chunked .is) ∙ closed-used p held (length d) n h
+
+    none-left : drop (r .used) (held ++ closing (length held)) ≡ []
+    none-left = ap (λ (k : ℕ). drop k (held ++ closing (length held))) used-all ∙ drop-of-length-le (held ++ closing (length held)) (le-refl (length (held ++ closing (length held))))
+
+-- and what was written along the way, followed by what the last line gave, is the answer to the whole log.
+pub sofar-last : (p₀ : Pack) (read o : List ℕ) (p : Pack) (held d : List ℕ) (r : Fed) (buf′ e : List ℕ) → plain held ≡ true → room ≤ length d
+    → Sofar p₀ read o p held → Went (held ++ closing (length held)) d p r buf′ e → output p₀ read ≡ o ++ take (r .written) e
+sofar-last p₀ read o p held d r buf′ e n h s w =
+    any.sofar-end nextOf answerOf p₀ read o p held n s
+    ∙ ap (λ (z : List ℕ). o ++ z) (sym (any.output-last nextOf answerOf p held n) ∙ closed-fed p held d r buf′ e n h w)
+
+-- The whole: the header, what was written along the way and what the last line gave, wherever the log was cut.
+pub replayed-is : (page log o : List ℕ) (p : Pack) (held d : List ℕ) (r : Fed) (buf′ e : List ℕ) → afterLoad page .verdict ≡ verdict.Accepted
+    → plain held ≡ true → room ≤ length d → Sofar (afterLoad page .pack) log o p held → Went (held ++ closing (length held)) d p r buf′ e
+    → replayed page log ≡ headerText ++ (o ++ take (r .written) e)
 unfolding replayed
-replayed-is page log o p held size a n h s =
-    rw a (ap (λ (z : List ℕ). headerText ++ z) (sofar-last (afterLoad page .pack) log o p held size n h s))
+replayed-is page log o p held d r buf′ e a n h s w =
+    rw a (ap (λ (z : List ℕ). headerText ++ z) (sofar-last (afterLoad page .pack) log o p held d r buf′ e n h s w))
 
 -- A refused page gives its one line.
 pub replayed-refused : (page log : List ℕ) (number word : ℕ) → afterLoad page .verdict ≡ verdict.Refused number word
@@ -149,41 +187,24 @@ pub roomed-put : (d s : List ℕ) (r : ℕ) (e : List ℕ) → room ≤ length d
 unfolding roomed
 roomed-put d s r e h p = rw (le-ltb (length d) room h) p
 
--- What was put at the start ends inside.
-pub put-inside : {d s : List ℕ} {r : ℕ} {e : List ℕ} → Put d 0 s r e → r ≤ length d
-put-inside {d} {s} {r} {e} p =
-    by-order (length d) (0 + length s)
+-- What was put at a place of a buffer ends inside.
+pub put-within : {d : List ℕ} {at : ℕ} {s : List ℕ} {r : ℕ} {e : List ℕ} → Put d at s r e → at ≤ length d → r ≤ length d
+put-within {d} {at} {s} {r} {e} p l =
+    by-order (length d) (at + length s)
     (λ h. let z = put-full-place p h in omega arith)
     (λ h. let z = put-place p h in omega arith)
 
 pub opened : {d : List ℕ} {v : Verdict} {r : ℕ} {e : List ℕ} → Put d 0 (roomed (length d) (openingText v)) r e → Opened d v r e
-opened p = record { put = p; fits = put-inside p }
+opened p = record { put = p; fits = put-within p (omega arith) }
 
-module _ (d : List ℕ) (p : Pack) (held : List ℕ) where
-  pub last-short : length d < room → Put d 0 (lastAnswer (length d) p held) 0 d
-  unfolding lastAnswer
-  last-short h = roomed-short d (any.lastText nextOf answerOf p held) h
+-- The newline of the last line was put.
+pub closed-none : (buf : List ℕ) (held : ℕ) → held ≡ 0 → Put buf held (closing held) 0 buf
+unfolding closing
+closed-none buf held e = rw e (nothing-put buf)
 
-  -- Nothing is left.
-  pub last-nothing : room ≤ length d → lastLine held 0 ≡ Nothing → Put d 0 (lastAnswer (length d) p held) 0 d
-  unfolding lastAnswer lastLine
-  last-nothing h e =
-      by-test (ltb 0 (length held))
-      (λ t. absurd (let q : Line ≡ Nothing = rw t at e in let z : _≡_ {A = ℕ} 0 1 = cc in omega arith))
-      (λ t.
-      let k = ltb-false 0 (length held) t in
-      roomed-put d (any.lastText nextOf answerOf p held) 0 d h (rw (any.last-silent nextOf answerOf p held (omega arith)) (nothing-put d)))
-
-  -- A line is left, and its answer t was put.
-  pub last-put : room ≤ length d → lastLine held 0 ≡ Line → (t : Turned) → t ≡ turnOf p held → (r : ℕ) (e : List ℕ)
-      → Put d 0 (textOf (t .told)) r e → Put d 0 (lastAnswer (length d) p held) r e
-  unfolding lastAnswer lastLine
-  last-put h e t et r o q =
-      by-test (ltb 0 (length held))
-      (λ s.
-      roomed-put d (any.lastText nextOf answerOf p held) r o h
-      (rw (any.last-answer nextOf answerOf p held (ltb-true 0 (length held) s), ← et) q))
-      (λ s. absurd (let c : Nothing ≡ Line = rw s at e in let z : _≡_ {A = ℕ} 0 1 = cc in omega arith))
+pub closed-put : (buf : List ℕ) (held r : ℕ) (e : List ℕ) → (held ≡ 0 → ⊥) → Put buf held (10 ∷ []) r e → Put buf held (closing held) r e
+unfolding closing
+closed-put buf held r e n p = rw (ne-eqb held 0 n) p
 
 -- A buffer was fed.
 pub went : (buf d : List ℕ) (p : Pack) (r : Fed) (buf′ e : List ℕ)

@@ -5,12 +5,12 @@ ghost use Prim.Native.Nat.{_+_, _≤_};
 ghost use lib.ListN.{length};
 ghost use Rattle.text.specs.Placing.{Put};
 ghost use Rattle.pack.specs.Kept.{Kept, afterLoad};
-ghost use Rattle.log.specs.Told.{turnedBy, turnOf};
+ghost use Rattle.log.specs.Told.{answeredAs, turnedBy, turnOf};
 ghost use Rattle.log.specs.Texts.{fieldText, decisionText, refusedText, pageText, textOf};
 ghost use Rattle.log.specs.Writing.{frontText, backText};
-ghost use Rattle.log.specs.Replay.{Chunked, Went, lastAnswer, Opened};
+ghost use Rattle.log.specs.Replay.{Chunked, Went, closing, Opened};
+use entries::Entry;
 use entries::Kind;
-use lines::LastLine;
 use lines::NextLine;
 use pack::Answered;
 use pack::Decision;
@@ -78,29 +78,39 @@ fn turned_by(a: Answered) -> Turned
     }
 }
 
-// What a line does to a pack: a sample is offered, a command is given, and a malformed line is refused with 17 and moves nothing.
+// What a pack answers to a line that was read: a sample is offered, a command is given, and a malformed line is refused with 17 and moves
+// nothing.
+fn answered_by(p: Pack, e: Entry) -> Answered
+    requires { ⌜ Kept p ⌝ }
+    ensures { λ r. ⌜ r ≡ answeredAs (e .kind) p e ⌝ }
+    ensures { λ r. ⌜ Kept (r .pack) ⌝ }
+{
+    let kind = e.kind;
+    match kind {
+        Kind::Offer => {
+            let s = e.sample;
+            pack::offer(p, s)
+        }
+        Kind::Command => pack::command(p, e.command),
+        Kind::Malformed => Answered {
+            verdict: Verdict::Refused {
+                number: 17,
+                word: 0,
+            },
+            pack: p,
+        },
+    }
+}
+
+// What a line does to a pack.
 pub fn tell(p: Pack, line: &[u8]) -> Turned
     requires { ⌜ Kept p ⌝ }
     ensures { λ r. ⌜ r ≡ turnOf p (now (line .entry)) ⌝ }
     ensures { λ r. ⌜ Kept (r .pack) ⌝ }
 {
     let e = entries::read_entry(line);
-    let kind = e.kind;
-    match kind {
-        Kind::Offer => {
-            let s = e.sample;
-            let a = pack::offer(p, s);
-            turned_by(a)
-        }
-        Kind::Command => {
-            let a = pack::command(p, e.command);
-            turned_by(a)
-        }
-        Kind::Malformed => Turned {
-            told: Told::Refused(17),
-            pack: p,
-        },
-    }
+    let a = answered_by(p, e);
+    turned_by(a)
 }
 
 // ---- its text
@@ -175,40 +185,28 @@ pub fn answer_chunk(p: Pack, bytes: &[u8], out: &mut [u8]) -> Chunk
     let mut w: usize = 0;
     loop {
         let n = lines::next_line(bytes, at);
-        match n {
-            NextLine::Unfinished => {
-                return Chunk {
-                    done: true,
-                    used: at,
-                    written: w,
-                    pack: k,
-                };
-            }
-            NextLine::Overlong => {
-                return Chunk {
-                    done: true,
-                    used: at,
-                    written: w,
-                    pack: k,
-                };
-            }
-            NextLine::Ends { end, next } => {
-                if out.len() < w + ROOM {
-                    return Chunk {
-                        done: false,
-                        used: at,
-                        written: w,
-                        pack: k,
-                    };
-                }
-                let line = &bytes[at..end];
-                let t = tell(k, line);
-                let told = t.told;
-                w = put_told(out, w, told);
-                k = t.pack;
-                at = next;
-            }
+        let NextLine::Ends { end, next } = n else {
+            return Chunk {
+                done: true,
+                used: at,
+                written: w,
+                pack: k,
+            };
+        };
+        if out.len() < w + ROOM {
+            return Chunk {
+                done: false,
+                used: at,
+                written: w,
+                pack: k,
+            };
         }
+        let line = &bytes[at..end];
+        let t = tell(k, line);
+        let told = t.told;
+        w = put_told(out, w, told);
+        k = t.pack;
+        at = next;
     }
 }
 
@@ -233,24 +231,16 @@ pub fn feed(p: Pack, buf: &mut [u8], out: &mut [u8]) -> Fed
     }
 }
 
-// Answers the last line, which does not end, where there is one: the bytes that are left at the end of the log.
-pub fn last(p: Pack, held: &[u8], out: &mut [u8]) -> usize
-    requires { ⌜ Kept p ⌝ }
-    ensures { λ r. ⌜ Put (now (out .entry)) 0 (lastAnswer (length (now (out .entry))) p (now (held .entry))) r (now (out .exit)) ⌝ }
-    ensures { λ r. ⌜ r ≤ length (now (out .entry)) ⌝ }
+// The end of the log: the last line, where it does not end, gets its newline behind the `held` bytes that are left, so that it can be
+// answered like any other; where nothing is left there is no line. It answers how many bytes then wait.
+pub fn last(buf: &mut [u8], held: usize) -> usize
+    ensures { λ r. ⌜ Put (now (buf .entry)) held (closing held) r (now (buf .exit)) ⌝ }
+    ensures { λ r. ⌜ (held ≤ length (now (buf .entry)) → r ≤ length (now (buf .entry))) ⌝ }
 {
-    if out.len() < ROOM {
+    if held == 0 {
         return 0;
     }
-    let l = lines::last_line(held, 0);
-    match l {
-        LastLine::Nothing => 0,
-        LastLine::Line => {
-            let t = tell(p, held);
-            let told = t.told;
-            put_told(out, 0, told)
-        }
-    }
+    text::put_byte(buf, held, 10)
 }
 
 // ---- the start

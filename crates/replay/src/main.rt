@@ -138,24 +138,15 @@ fn answer_lines(name: &[u8], fd: i32, p: Pack, buf: &mut [u8], first: usize, out
     }
 }
 
-// Answers the last line, which does not end.
-fn answer_last(p: Pack, held: &[u8], out: &mut [u8])
-    requires { ⌜ Kept p ⌝ }
-{
-    let n = log::last(p, held, out);
-    let text = &out[..n];
-    write_text(text);
-}
-
+// Answers the whole log, of which the first `first` bytes are read.
 fn answer(name: &[u8], fd: i32, p: Pack, buf: &mut [u8], first: usize, out: &mut [u8])
     requires { ⌜ Kept p × (first ≤ length (now buf)) ⌝ }
 {
     let r = answer_lines(name, fd, p, buf, first, out);
     if r.ok {
-        let held = r.held;
-        let rest = &buf[..held];
+        let n = log::last(buf, r.held);
         let k = r.pack;
-        answer_last(k, rest, out);
+        answer_part(k, buf, n, out);
     }
 }
 

@@ -2,10 +2,11 @@
 use mathlib.Core.Path.{sym, _∙_}
 use Prim.Native.Nat.{_-_}
 use lib.ListN.{length}
-use Rattle.lines.specs.Walking.{next-ends, next-unfinished, next-overlong}
+use Rattle.lines.specs.Walking.{next-ends}
 use Rattle.lines.specs.Chunk.{Going, going-start, going-done, going-full}
 use Rattle.pack.specs.Kept.{Kept}
 use Rattle.log.specs.Replay.{nextOf, answerOf, room, chunk-on}
+use Rattle.log.proofs.Ends.{no-end}
 use borrow.Author.Needs.{needs}
 use native.Mathlib.Omega.{arith}
 use Rattle.log.proofs.answer_chunk.Statement.{statement}
@@ -23,37 +24,24 @@ loop-holds c = (going-start nextOf answerOf room _ _ _, c .before .before .pre)
 next-line-requires : tie.Need-next-line-requires Inv-loop μ-loop
 next-line-requires c κs = search needs
 
-enum-told : tie.Need-enum-told Inv-loop μ-loop
-enum-told c = search needs
+enum-known-n : tie.Need-enum-known-n Inv-loop μ-loop
+enum-known-n c = search needs
 
 same-length : tie.Need-same-length Inv-loop μ-loop
-same-length c = c .before .before .before .loop .inv .0 .same
+same-length c = c .before .before .loop .inv .0 .same
 
 returns : tie.Need-returns Inv-loop μ-loop
 returns c =
-    let i = c .before .before .before .loop .inv in (going-done nextOf answerOf room _ _ _ _ _ _ _ (i .0) (next-unfinished _ _ (sym (c .before .before .next-line .ensures) ∙ c .enum-told .given .1)), i .1)
-
-enum-told-2 : tie.Need-enum-told-2 Inv-loop μ-loop
-enum-told-2 c = search needs
-
-same-length-2 : tie.Need-same-length-2 Inv-loop μ-loop
-same-length-2 c = c .before .before .before .loop .inv .0 .same
-
-returns-2 : tie.Need-returns-2 Inv-loop μ-loop
-returns-2 c =
-    let i = c .before .before .before .loop .inv in (going-done nextOf answerOf room _ _ _ _ _ _ _ (i .0) (next-overlong _ _ (sym (c .before .before .next-line .ensures) ∙ c .enum-told2 .given .1)), i .1)
-
-enum-known-n : tie.Need-enum-known-n Inv-loop μ-loop
-enum-known-n c = search needs
+    let i = c .before .before .loop .inv in (going-done nextOf answerOf room _ _ _ _ _ _ _ (i .0) (no-end _ _ _ (c .before .next-line .ensures) (c .match .keys2)), i .1)
 
 add-if1 : tie.Need-add-if1 Inv-loop μ-loop
 add-if1 c = search needs
 
-same-length-3 : tie.Need-same-length-3 Inv-loop μ-loop
-same-length-3 c = c .before .before .before .before .before .loop .inv .0 .same
+same-length-2 : tie.Need-same-length-2 Inv-loop μ-loop
+same-length-2 c = c .before .before .before .before .before .loop .inv .0 .same
 
-returns-3 : tie.Need-returns-3 Inv-loop μ-loop
-returns-3 c =
+returns-2 : tie.Need-returns-2 Inv-loop μ-loop
+returns-2 c =
     let i = c .before .before .before .before .before .loop .inv in let n = c .before .before .n .given in
     let e = next-ends _ _ (n .0 .0) (n .0 .1 .0) (sym (c .before .before .before .before .next-line .ensures) ∙ n .1) in
     (going-full nextOf answerOf room _ _ _ _ _ _ _ (i .0) _ _ e (c .if1 .taken), i .1)
@@ -99,16 +87,12 @@ answer-chunk-spec =
     μ-loop
     loop-holds
     next-line-requires
-    enum-told
+    enum-known-n
     same-length
     returns
-    enum-told-2
+    add-if1
     same-length-2
     returns-2
-    enum-known-n
-    add-if1
-    same-length-3
-    returns-3
     sub-line
     part-line-start
     part-line-end

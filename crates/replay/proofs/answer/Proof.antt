@@ -1,5 +1,4 @@
 -- `replay::answer` meets its contract. Assumes nothing.
-use lib.ListN.{length-take}
 use native.Mathlib.Omega.{arith}
 use borrow.Author.Needs.{needs}
 use Rattle.replay.proofs.answer.Statement.{statement}
@@ -8,14 +7,12 @@ use Rattle.replay.proofs.answer.Tie as tie
 answer-lines-requires : tie.Need-answer-lines-requires
 answer-lines-requires c κs = search needs
 
-slice-reshare-prefix-rest : tie.Need-slice-reshare-prefix-rest
-slice-reshare-prefix-rest c = search needs
+last-requires : tie.Need-last-requires
+last-requires c κs = search needs
 
-slice-aggregate-rest : tie.Need-slice-aggregate-rest
-slice-aggregate-rest c = rw length-take (omega arith)
-
-answer-last-requires : tie.Need-answer-last-requires
-answer-last-requires c κs = search needs
+answer-part-requires : tie.Need-answer-part-requires
+answer-part-requires c κs =
+    (c .before .before .before .before .before .before .before .before .before .before .before .before .answer-lines .ensures .0, omega (arith, c .before .before .before .before .before .last .ensures .1 (omega (arith, c .before .before .before .before .before .before .before .before .before .before .before .before .answer-lines .ensures .1))))
 
 same-length : tie.Need-same-length
 same-length c = search needs
@@ -40,9 +37,8 @@ answer-spec =
     tie.close
     (tie.spec
     answer-lines-requires
-    slice-reshare-prefix-rest
-    slice-aggregate-rest
-    answer-last-requires
+    last-requires
+    answer-part-requires
     same-length
     same-length-2
     returns

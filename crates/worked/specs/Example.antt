@@ -1,0 +1,55 @@
+-- Document 01's replay example, byte for byte: the page, the log and what the replay writes for them (tests/examples has the same three as
+-- files). It is computed through every definition from the page's bytes to the text, each of which the proofs below unfold.
+-- Assumes nothing.
+use Prim.Native.Nat.{ℕ}
+use mathlib.Core.Path.{_≡_, refl}
+use mathlib.Core.List.{List, [], _∷_}
+use Rattle.log.specs.Replay.{replayed}
+use Rattle.laws.specs.Bits as laws-bits
+use Rattle.laws.specs.Each as laws-each
+use Rattle.units.specs.Signed as units-signed
+use Rattle.protections.specs.Table as protections-table
+use Rattle.crc.specs.CheckByte as crc-checkbyte
+use Rattle.text.specs.Decimal as text-decimal
+use Rattle.text.specs.Fields as text-fields
+use Rattle.text.specs.Finding as text-finding
+use Rattle.text.specs.Numbers as text-numbers
+use Rattle.lines.specs.Lines as lines-lines
+use Rattle.lines.specs.Output as lines-output
+use Rattle.page.specs.Page as page-page
+use Rattle.settings.specs.Settings as settings-settings
+use Rattle.guard.specs.Cells as guard-cells
+use Rattle.guard.specs.Numbered as guard-numbered
+use Rattle.guard.specs.Steps as guard-steps
+use Rattle.guard.specs.Words as guard-words
+use Rattle.bleed.specs.Steps as bleed-steps
+use Rattle.bleed.specs.Wants as bleed-wants
+use Rattle.bleed.specs.Word as bleed-word
+use Rattle.samples.specs.Samples as samples-samples
+use Rattle.pack.specs.Kept as pack-kept
+use Rattle.pack.specs.Shown as pack-shown
+use Rattle.pack.specs.State as pack-state
+use Rattle.entries.specs.Entry as entries-entry
+use Rattle.log.specs.Told as log-told
+use Rattle.log.specs.Texts as log-texts
+use Rattle.log.specs.Replay as log-replay
+
+-- n 2, K 1, R 4, floor 3900, difference 10, detection 100; protection 0: 4250, 4150, 2, 2, mask 1
+abbrev pub page : List ℕ
+page = 164 ∷ 23 ∷ 2 ∷ 0 ∷ 1 ∷ 0 ∷ 4 ∷ 0 ∷ 60 ∷ 15 ∷ 10 ∷ 0 ∷ 100 ∷ 0 ∷ 104 ∷ 16 ∷ 208 ∷ 7 ∷ 0 ∷ 0 ∷ 0 ∷ 0 ∷ 0 ∷ 0 ∷ 0 ∷ 0 ∷ 0 ∷ 0 ∷ 0 ∷ 0 ∷ 0 ∷ 0 ∷ 154 ∷ 16 ∷ 54 ∷ 16 ∷ 2 ∷ 0 ∷ 2 ∷ 0 ∷ 1 ∷ 0 ∷ 240 ∷ 10 ∷ 184 ∷ 11 ∷ 4 ∷ 0 ∷ 4 ∷ 0 ∷ 2 ∷ 0 ∷ 184 ∷ 11 ∷ 196 ∷ 9 ∷ 4 ∷ 0 ∷ 8 ∷ 0 ∷ 1 ∷ 0 ∷ 216 ∷ 220 ∷ 144 ∷ 232 ∷ 8 ∷ 0 ∷ 8 ∷ 0 ∷ 2 ∷ 0 ∷ 224 ∷ 177 ∷ 24 ∷ 252 ∷ 1 ∷ 0 ∷ 8 ∷ 0 ∷ 3 ∷ 0 ∷ 45 ∷ 0 ∷ 40 ∷ 0 ∷ 8 ∷ 0 ∷ 8 ∷ 0 ∷ 1 ∷ 0 ∷ 60 ∷ 0 ∷ 55 ∷ 0 ∷ 8 ∷ 0 ∷ 8 ∷ 0 ∷ 2 ∷ 0 ∷ 65 ∷ 0 ∷ 58 ∷ 0 ∷ 8 ∷ 0 ∷ 8 ∷ 0 ∷ 3 ∷ 0 ∷ 0 ∷ 0 ∷ 0 ∷ 0 ∷ 0 ∷ 0 ∷ 0 ∷ 0 ∷ 0 ∷ 0 ∷ 0 ∷ 0 ∷ 0 ∷ 0 ∷ 0 ∷ 55 ∷ []
+
+-- `F 3`, and four `S` lines
+abbrev pub log : List ℕ
+log = 70 ∷ 9 ∷ 51 ∷ 10 ∷ 83 ∷ 9 ∷ 53 ∷ 48 ∷ 48 ∷ 9 ∷ 50 ∷ 57 ∷ 56 ∷ 48 ∷ 9 ∷ 50 ∷ 57 ∷ 56 ∷ 48 ∷ 9 ∷ 52 ∷ 48 ∷ 48 ∷ 48 ∷ 9 ∷ 52 ∷ 48 ∷ 50 ∷ 48 ∷ 10 ∷ 83 ∷ 9 ∷ 53 ∷ 48 ∷ 48 ∷ 9 ∷ 50 ∷ 57 ∷ 56 ∷ 48 ∷ 9 ∷ 50 ∷ 57 ∷ 56 ∷ 48 ∷ 9 ∷ 52 ∷ 50 ∷ 54 ∷ 48 ∷ 9 ∷ 52 ∷ 49 ∷ 48 ∷ 48 ∷ 10 ∷ 83 ∷ 9 ∷ 53 ∷ 48 ∷ 48 ∷ 9 ∷ 50 ∷ 57 ∷ 56 ∷ 48 ∷ 9 ∷ 50 ∷ 57 ∷ 56 ∷ 48 ∷ 9 ∷ 52 ∷ 50 ∷ 54 ∷ 48 ∷ 9 ∷ 52 ∷ 49 ∷ 48 ∷ 48 ∷ 10 ∷ 83 ∷ 9 ∷ 53 ∷ 48 ∷ 48 ∷ 9 ∷ 50 ∷ 57 ∷ 56 ∷ 48 ∷ 9 ∷ 50 ∷ 57 ∷ 56 ∷ 48 ∷ 9 ∷ 52 ∷ 49 ∷ 48 ∷ 48 ∷ 10 ∷ []
+
+-- the header, four decisions, and `refused 9`
+abbrev pub written : List ℕ
+written = 116 ∷ 105 ∷ 99 ∷ 107 ∷ 9 ∷ 114 ∷ 97 ∷ 105 ∷ 115 ∷ 101 ∷ 100 ∷ 9 ∷ 102 ∷ 101 ∷ 116 ∷ 115 ∷ 9 ∷ 98 ∷ 97 ∷ 108 ∷ 97 ∷ 110 ∷ 99 ∷ 101 ∷ 9 ∷ 109 ∷ 111 ∷ 100 ∷ 101 ∷ 10 ∷ 48 ∷ 9 ∷ 48 ∷ 9 ∷ 48 ∷ 9 ∷ 48 ∷ 9 ∷ 48 ∷ 10 ∷ 49 ∷ 9 ∷ 48 ∷ 9 ∷ 51 ∷ 9 ∷ 50 ∷ 9 ∷ 51 ∷ 10 ∷ 50 ∷ 9 ∷ 48 ∷ 9 ∷ 51 ∷ 9 ∷ 49 ∷ 9 ∷ 51 ∷ 10 ∷ 51 ∷ 9 ∷ 49 ∷ 9 ∷ 50 ∷ 9 ∷ 48 ∷ 9 ∷ 50 ∷ 49 ∷ 10 ∷ 114 ∷ 101 ∷ 102 ∷ 117 ∷ 115 ∷ 101 ∷ 100 ∷ 9 ∷ 57 ∷ 10 ∷ []
+
+-- `page 1 0` for a page of no bytes, whatever the log is
+abbrev pub pageLine : List ℕ
+pageLine = 112 ∷ 97 ∷ 103 ∷ 101 ∷ 9 ∷ 49 ∷ 9 ∷ 48 ∷ 10 ∷ []
+
+pub example : replayed page log ∷ replayed [] log ∷ [] ≡ written ∷ pageLine ∷ []
+unfolding laws-bits.hasBit laws-bits.withBitIf laws-each.eachTo units-signed.signedOf protections-table.rowAt crc-checkbyte.timesX crc-checkbyte.timesXs crc-checkbyte.withByte crc-checkbyte.remainder crc-checkbyte.checkByte text-decimal.decimal text-fields.fieldsOf text-finding.lacks text-numbers.digitsTo text-numbers.numberTo text-numbers.signedOf lines-lines.linesOf lines-output.answers lines-output.output page-page.wordAt page-page.within page-page.degreesFit page-page.levelFits page-page.levelOf page-page.refusals page-page.judged settings-settings.inDegrees settings-settings.tripLevel settings-settings.releaseLevel settings-settings.limitsAt settings-settings.limitsOf settings-settings.rulesOf settings-settings.settingsOf settings-settings.noSettings settings-settings.loadedOf guard-cells.bestOf guard-cells.widen guard-cells.extremesOf guard-numbered.listFrom guard-numbered.listOf guard-steps.raised guard-steps.protectionOf guard-steps.protectionsOf guard-steps.stepOne guard-steps.stepWith guard-steps.stepAllWith guard-steps.clear guard-steps.clearAt guard-words.bitsOf guard-words.anyOf guard-words.raisedBits guard-words.anyRaised guard-words.blocksOne guard-words.blocksAny bleed-steps.tenAtMost bleed-steps.cellOf bleed-steps.runOf bleed-steps.wishes bleed-steps.wantingWord bleed-steps.rested bleed-steps.restingWord bleed-steps.nextCell bleed-steps.nextRun bleed-steps.nextRuns bleed-steps.chosenWord bleed-steps.besideTaken bleed-steps.mayTake bleed-steps.takeOne bleed-steps.takeFrom bleed-wants.wants bleed-word.inWord bleed-word.withCellIf bleed-word.wordTo samples-samples.cellsFit samples-samples.sampleRefusals samples-samples.sampleVerdict samples-samples.commandRefusals samples-samples.commandVerdict samples-samples.keptCell samples-samples.trimmed pack-kept.afterLoad pack-shown.modeOrder pack-shown.firstMode pack-shown.switchesOf pack-shown.modeOf pack-shown.decisionOf pack-state.nextTick pack-state.freshBalance pack-state.nextBalance pack-state.wantWith pack-state.acceptedPack pack-state.freshPack pack-state.offered pack-state.withCommand pack-state.commanded entries-entry.commandOf entries-entry.cellsFrom entries-entry.secondOf entries-entry.firstOf entries-entry.sampleOf entries-entry.fieldsSay entries-entry.entryOf log-told.turnedBy log-told.turnOf log-texts.lineOf log-texts.headerText log-texts.pageText log-texts.decisionText log-texts.refusedText log-replay.replayed
+example = refl
