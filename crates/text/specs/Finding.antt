@@ -77,3 +77,11 @@ module _ (w : ℕ) (x : List ℕ) (e : ℕ) where
   pub find-past : length x ≤ e → e ≡ e + length (before w (drop e x))
   unfolding before
   find-past h = rw (drop-of-length-le x h) (omega arith)
+
+  -- where the search from a place ends
+  abbrev pub sought : ℕ → ℕ
+  sought i = i + length (before w (drop i x))
+
+  -- it does not stand at e: the search from the next place, f, ends where the one from e does
+  pub find-next : (f : ℕ) → f ≡ e + 1 → e < length x → (getD x e 0 ≡ w → ⊥) → sought f ≡ sought e
+  find-next f q h n = ap sought q ∙ find-on h n

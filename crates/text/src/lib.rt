@@ -22,8 +22,8 @@ pub enum Signed {
     Malformed,
 }
 
-// The place of the first `wanted` byte at or behind `from`, or the end where there is none; past the end it is `from` itself.
-pub fn find(bytes: &[u8], from: usize, wanted: u8) -> usize
+// Byte by byte: the place of the first `wanted` byte at or behind `from`, or the end where there is none.
+fn find_slowly(bytes: &[u8], from: usize, wanted: u8) -> usize
     ensures { λ r. ⌜ r ≡ from + length (before wanted (drop from (now (bytes .entry)))) ⌝ }
     ensures { λ r. ⌜ (from ≤ r) × (r - from ≤ length (now (bytes .entry)) - from) ⌝ }
 {
@@ -35,6 +35,42 @@ pub fn find(bytes: &[u8], from: usize, wanted: u8) -> usize
         e += 1;
     }
     e
+}
+
+// The places of n from which four bytes are left.
+fn with_four_left(n: usize) -> usize
+    ensures { λ r. ⌜ r ≡ n - 3 ⌝ }
+{
+    if n < 3 {
+        return 0;
+    }
+    n - 3
+}
+
+// The place of the first `wanted` byte at or behind `from`, or the end where there is none; past the end it is `from` itself. Four bytes at
+// a turn, and the last few one by one.
+pub fn find(bytes: &[u8], from: usize, wanted: u8) -> usize
+    ensures { λ r. ⌜ r ≡ from + length (before wanted (drop from (now (bytes .entry)))) ⌝ }
+    ensures { λ r. ⌜ (from ≤ r) × (r - from ≤ length (now (bytes .entry)) - from) ⌝ }
+{
+    let stop = with_four_left(bytes.len());
+    let mut e = from;
+    while e < stop {
+        if bytes[e] == wanted {
+            return e;
+        }
+        if bytes[e + 1] == wanted {
+            return e + 1;
+        }
+        if bytes[e + 2] == wanted {
+            return e + 2;
+        }
+        if bytes[e + 3] == wanted {
+            return e + 3;
+        }
+        e += 4;
+    }
+    find_slowly(bytes, e, wanted)
 }
 
 // The field that starts at `from`, up to the next tab, as a part of the caller's line; past the end it is the empty part at the end.
