@@ -63,6 +63,13 @@ before-at w [] rest p = rw (eq-eqb w w refl)
 before-at w (b ∷ x) rest p =
     let q = lacks-head w b x p in rw (q .0) (ap (λ (l : List ℕ). b ∷ l) (before-at w x rest (q .1)))
 
+-- what lacks w, and no more
+pub before-none : (w : ℕ) (x : List ℕ) → lacks w x ≡ true → before w (x ++ []) ≡ x
+unfolding before
+before-none w [] p = refl
+before-none w (b ∷ x) p =
+    let q = lacks-head w b x p in rw (q .0) (ap (λ (l : List ℕ). b ∷ l) (before-none w x (q .1)))
+
 -- the search at e: it goes on, it stands there, there is no more
 module _ (w : ℕ) (x : List ℕ) (e : ℕ) where
   pub find-on : e < length x → (getD x e 0 ≡ w → ⊥)

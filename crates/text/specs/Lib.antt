@@ -6,6 +6,7 @@ pub mod Placing
 pub mod Splitting
 pub mod Spelling
 pub mod Canonical
+pub mod NumberAt
 pub mod Putting
 pub mod Back
 pub mod Cases

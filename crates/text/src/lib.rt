@@ -8,6 +8,7 @@ ghost use Rattle.text.specs.Finding.{before};
 ghost use Rattle.text.specs.Fields.{fieldAt};
 ghost use Rattle.text.specs.Decimal.{decimal};
 ghost use Rattle.text.specs.Numbers.{digitsTo, numberTo, numberOf, signedOf, belowOf, minus};
+ghost use Rattle.text.specs.NumberAt.{noDigit, orZero, fourAt, fourLeft, numberAt};
 ghost use Rattle.text.specs.Placing.{Put, written};
 
 // A field as a number.
@@ -19,6 +20,12 @@ pub enum Number {
 // A field as a number that may have a minus.
 pub enum Signed {
     Value(i16),
+    Malformed,
+}
+
+// The field at a place of a line as a number, and the place where it ends.
+pub enum FieldNumber {
+    Value { number: u16, end: usize },
     Malformed,
 }
 
@@ -136,6 +143,92 @@ pub fn read_number(field: &[u8]) -> Number
     ensures { λ r. ⌜ r ≡ numberOf (now (field .entry)) ⌝ }
 {
     number_to(field, 65535)
+}
+
+// ---- a field of a line as a number
+
+fn no_digit(b: u8) -> bool
+    ensures { λ r. ⌜ r ≡ noDigit b ⌝ }
+{
+    if b < 48 {
+        return true;
+    }
+    57 < b
+}
+
+// The number that the four bytes from `from` on spell, or 0 where they spell none: 53328 is 48 * 1111.
+fn four(line: &[u8], from: usize) -> u16
+    requires { ⌜ from + 4 ≤ length (now line) ⌝ }
+    ensures { λ r. ⌜ r ≡ orZero (numberOf (fourAt (now (line .entry)) from)) ⌝ }
+{
+    let a = line[from];
+    if a == 48 {
+        return 0;
+    }
+    if no_digit(a) {
+        return 0;
+    }
+    let b = line[from + 1];
+    if no_digit(b) {
+        return 0;
+    }
+    let c = line[from + 2];
+    if no_digit(c) {
+        return 0;
+    }
+    let d = line[from + 3];
+    if no_digit(d) {
+        return 0;
+    }
+    let v = wide(a) * 1000 + wide(b) * 100 + wide(c) * 10 + wide(d);
+    (v - 53328) as u16
+}
+
+// Whether four bytes are left from `from` on, and behind them the end or a tab.
+fn four_left(line: &[u8], from: usize) -> bool
+    ensures { λ r. ⌜ r ≡ fourLeft (now (line .entry)) from ⌝ }
+{
+    let n = line.len();
+    if n < 4 {
+        return false;
+    }
+    if n - 4 < from {
+        return false;
+    }
+    if n - 4 == from {
+        return true;
+    }
+    line[from + 4] == 9
+}
+
+fn number_slowly(line: &[u8], from: usize) -> FieldNumber
+    ensures { λ r. ⌜ r ≡ numberAt (now (line .entry)) from ⌝ }
+{
+    let f = field(line, from);
+    let n = read_number(f);
+    let Number::Value(v) = n else {
+        return FieldNumber::Malformed;
+    };
+    FieldNumber::Value {
+        number: v,
+        end: from + f.len(),
+    }
+}
+
+// The field that starts at `from` as a number 0..65535, and where it ends. Most have four digits: those are read at once.
+pub fn number_at(line: &[u8], from: usize) -> FieldNumber
+    ensures { λ r. ⌜ r ≡ numberAt (now (line .entry)) from ⌝ }
+{
+    if four_left(line, from) {
+        let v = four(line, from);
+        if 0 < v {
+            return FieldNumber::Value {
+                number: v,
+                end: from + 4,
+            };
+        }
+    }
+    number_slowly(line, from)
 }
 
 // Minus `v`, for `v` from 1 to 32768: -32768 is made without ever being negated.
