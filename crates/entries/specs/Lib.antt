@@ -1,4 +1,5 @@
 pub mod Entry
 pub mod Left
 pub mod Reading
+pub mod InTurn
 pub mod Cases

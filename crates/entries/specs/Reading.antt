@@ -256,18 +256,8 @@ module _ (current : ℤ) (t1 t2 k : ℕ) (cells : List MilliVolts) (f : List ℕ
   unfolding cellsFrom
   cell-next v h e = rw (lt-ltb k 10 h, e, add-one)
 
--- A field f at a place of the line, where a temperature or the current is to be read, is a number.
+-- A field f at a place of the line, where the current is to be read, is a number.
 module _ (line : List ℕ) (at : ℕ) (f : List ℕ) (e : f ≡ fieldAt line at) (h : at ≤ length line) where
-  pub second-read : (current : ℤ) (t1 t2 : ℕ) → numberOf f ≡ Value t2
-      → secondOf current t1 (left line at) ≡ cellsFrom current t1 t2 0 (replicate 10 noVolts) (left line (at + length f + 1))
-  unfolding secondOf
-  second-read current t1 t2 n = rw (left-next line at f e h, n)
-
-  pub first-read : (current : ℤ) (t1 : ℕ) → numberOf f ≡ Value t1
-      → firstOf current (left line at) ≡ secondOf current t1 (left line (at + length f + 1))
-  unfolding firstOf
-  first-read current t1 n = rw (left-next line at f e h, n)
-
   pub sample-read : (current : ℤ) → signedOf f ≡ signed.Value current
       → sampleOf (left line at) ≡ firstOf current (left line (at + length f + 1))
   unfolding sampleOf

@@ -2,11 +2,12 @@
 ghost use mathlib.Core.Path.{_≡_};
 ghost use mathlib.Core.List.{[]};
 ghost use Prim.Native.Nat.{_+_, _≤_};
-ghost use lib.ListN.{length, replicate};
-ghost use Rattle.guard.specs.Cells.{noVolts};
-ghost use Rattle.entries.specs.Entry.{malformed, command, offer, commandOf, cellsFrom, secondOf, firstOf, sampleOf, entryOf};
+ghost use lib.ListN.{length, getD};
+ghost use Rattle.entries.specs.Entry.{malformed, offer, commandOf, firstOf, sampleOf, entryOf};
 ghost use Rattle.entries.specs.Left.{left};
+ghost use Rattle.entries.specs.InTurn.{cellsOf};
 use guard::Sample;
+use text::FieldNumber;
 use text::Number;
 use text::Signed;
 use units::DeciKelvin;
@@ -72,69 +73,53 @@ fn read_command(line: &[u8], at: usize) -> Entry
     }
 }
 
-// The cells of an `S` line: the fields from `from` on, ten at most.
-fn read_cells(line: &[u8], from: usize, current: i16, t1: u16, t2: u16) -> Entry
-    requires { ⌜ from ≤ length (now line) + 1 ⌝ }
-    ensures { λ r. ⌜ r ≡ cellsFrom current t1 t2 0 (replicate 10 noVolts) (left (now (line .entry)) from) ⌝ }
+// An `S` line's sample, from its current and its other numbers: the two temperatures and `count` cells.
+fn offered(current: i16, numbers: [u16; 12], count: u8) -> Entry
+    ensures { λ r. ⌜ r ≡ offer current (getD numbers 0 0) (getD numbers 1 0) count (cellsOf numbers) ⌝ }
 {
     let mut cells = [MilliVolts(0); 10];
-    let mut count: usize = 0;
-    let mut at = from;
-    while at <= line.len() {
-        let f = text::field(line, at);
-        if 10 <= count {
-            return no_entry();
-        }
-        let Number::Value(v) = text::read_number(f) else {
-            return no_entry();
-        };
-        cells[count] = MilliVolts(v);
-        count += 1;
-        at = at + f.len() + 1;
+    let mut i: usize = 0;
+    while i < 10 {
+        cells[i] = MilliVolts(numbers[i + 2]);
+        i += 1;
     }
     Entry {
         kind: Kind::Offer,
         command: 0,
         sample: Sample {
-            count: count as u8,
+            count: count,
             cells: cells,
             current: current,
-            t1: DeciKelvin(t1),
-            t2: DeciKelvin(t2),
+            t1: DeciKelvin(numbers[0]),
+            t2: DeciKelvin(numbers[1]),
         },
     }
 }
 
-// Temperature 2 of an `S` line, and what follows it.
-fn read_second(line: &[u8], at: usize, current: i16, t1: u16) -> Entry
-    requires { ⌜ at ≤ length (now line) + 1 ⌝ }
-    ensures { λ r. ⌜ r ≡ secondOf current t1 (left (now (line .entry)) at) ⌝ }
+// What follows the current of an `S` line: the fields from `from` on, twelve at most, are numbers alike.
+fn read_numbers(line: &[u8], from: usize, current: i16) -> Entry
+    requires { ⌜ from ≤ length (now line) + 1 ⌝ }
+    ensures { λ r. ⌜ r ≡ firstOf current (left (now (line .entry)) from) ⌝ }
 {
-    if line.len() < at {
+    let mut numbers: [u16; 12] = [0; 12];
+    let mut count: usize = 0;
+    let mut at = from;
+    while at <= line.len() {
+        if 12 <= count {
+            return no_entry();
+        }
+        let n = text::number_at(line, at);
+        let FieldNumber::Value { number, end } = n else {
+            return no_entry();
+        };
+        numbers[count] = number;
+        count += 1;
+        at = end + 1;
+    }
+    if count < 2 {
         return no_entry();
     }
-    let f = text::field(line, at);
-    let Number::Value(t2) = text::read_number(f) else {
-        return no_entry();
-    };
-    let next = at + f.len() + 1;
-    read_cells(line, next, current, t1, t2)
-}
-
-// Temperature 1 of an `S` line, and what follows it.
-fn read_first(line: &[u8], at: usize, current: i16) -> Entry
-    requires { ⌜ at ≤ length (now line) + 1 ⌝ }
-    ensures { λ r. ⌜ r ≡ firstOf current (left (now (line .entry)) at) ⌝ }
-{
-    if line.len() < at {
-        return no_entry();
-    }
-    let f = text::field(line, at);
-    let Number::Value(t1) = text::read_number(f) else {
-        return no_entry();
-    };
-    let next = at + f.len() + 1;
-    read_second(line, next, current, t1)
+    offered(current, numbers, (count - 2) as u8)
 }
 
 // `S` has current, temperature 1, temperature 2 and the cells.
@@ -150,7 +135,7 @@ fn read_sample(line: &[u8], at: usize) -> Entry
         return no_entry();
     };
     let next = at + f.len() + 1;
-    read_first(line, next, current)
+    read_numbers(line, next, current)
 }
 
 // What a line says. A carriage return is in no field that can be read, so that it is not looked for.

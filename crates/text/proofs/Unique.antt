@@ -11,6 +11,8 @@ use Rattle.text.proofs.field.Reads as field
 use Rattle.text.proofs.field.Kinds as field-kinds
 use Rattle.text.proofs.read_number.Reads as read-number
 use Rattle.text.proofs.read_number.Kinds as read-number-kinds
+use Rattle.text.proofs.number_at.Reads as number-at
+use Rattle.text.proofs.number_at.Kinds as number-at-kinds
 use Rattle.text.proofs.read_signed.Reads as read-signed
 use Rattle.text.proofs.read_signed.Kinds as read-signed-kinds
 use Rattle.text.proofs.put_byte.Reads as put-byte
@@ -25,6 +27,9 @@ find-one κs a x y s t p q = p .0 ∙ sym (q .0)
 
 read-number-one : Unique 1 read-number-kinds.ps read-number-kinds.r read-number.Post
 read-number-one κs a x y s t p q = p ∙ sym q
+
+number-at-one : Unique 1 number-at-kinds.ps number-at-kinds.r number-at.Post
+number-at-one κs a x y s t p q = p ∙ sym q
 
 read-signed-one : Unique 1 read-signed-kinds.ps read-signed-kinds.r read-signed.Post
 read-signed-one κs a x y s t p q = p ∙ sym q

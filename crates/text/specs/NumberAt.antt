@@ -29,6 +29,37 @@ withEnd Malformed e = field.Malformed
 abbrev pub numberAt : List ℕ → ℕ → FieldNumber
 numberAt line from = withEnd (numberOf (fieldAt line from)) (from + length (fieldAt line from))
 
+-- what was read says so of the field
+isNumber : FieldNumber → Bool
+isNumber (field.Value v e) = true
+isNumber field.Malformed = false
+
+numberIn : FieldNumber → ℕ
+numberIn (field.Value v e) = v
+numberIn field.Malformed = 0
+
+endIn : FieldNumber → ℕ
+endIn (field.Value v e) = e
+endIn field.Malformed = 0
+
+value-is : (n : Number) (x v e : ℕ) → withEnd n x ≡ field.Value v e → (n ≡ Value v) × (e ≡ x)
+unfolding isNumber numberIn endIn
+value-is (Value w) x v e q = (ap Value (ap numberIn q), sym (ap endIn q))
+value-is Malformed x v e q = clash refl (sym (ap isNumber q))
+
+none-is : (n : Number) (x : ℕ) → withEnd n x ≡ field.Malformed → n ≡ Malformed
+unfolding isNumber
+none-is (Value w) x q = clash refl (ap isNumber q)
+none-is Malformed x q = refl
+
+module _ (line : List ℕ) (from : ℕ) where
+  pub number-at-value : (v e : ℕ) → numberAt line from ≡ field.Value v e
+      → (numberOf (fieldAt line from) ≡ Value v) × (e ≡ from + length (fieldAt line from))
+  number-at-value v e q = value-is (numberOf (fieldAt line from)) (from + length (fieldAt line from)) v e q
+
+  pub number-at-none : numberAt line from ≡ field.Malformed → numberOf (fieldAt line from) ≡ Malformed
+  number-at-none q = none-is (numberOf (fieldAt line from)) (from + length (fieldAt line from)) q
+
 -- ---- four digits
 
 -- whether a byte is no digit
@@ -133,7 +164,7 @@ module _ (line : List ℕ) (from : ℕ) (t : fourLeft line from ≡ true) where
       ∙ by-order (from + 4) (length line)
       (λ h.
       let tab : getD line (from + 4) 0 ≡ 9 =
-          eqb-true _ _ (⊎-elim (λ q. absurd (let k = leb-true (length line) (from + 4) q in omega arith)) (λ q. q) (or-cases _ _ (and-right (leb (from + 4) (length line)) _ t))) in
+      eqb-true _ _ (⊎-elim (λ q. absurd (let k = leb-true (length line) (from + 4) q in omega arith)) (λ q. q) (or-cases _ _ (and-right (leb (from + 4) (length line)) _ t))) in
       ap (λ (l : List ℕ). before 9 (fourAt line from ++ l))
       (drop-next line (from + 4) (from + 5) (omega arith) h ∙ ap (λ (b : ℕ). b ∷ drop (from + 5) line) tab)
       ∙ before-at 9 (fourAt line from) (drop (from + 5) line) n)

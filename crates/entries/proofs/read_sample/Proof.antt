@@ -41,13 +41,13 @@ add-next c = search needs
 add-next-2 : tie.Need-add-next-2
 add-next-2 c = search needs
 
-read-first-requires : tie.Need-read-first-requires
-read-first-requires c κs = search needs
+read-numbers-requires : tie.Need-read-numbers-requires
+read-numbers-requires c κs = search needs
 
 returns-3 : tie.Need-returns-3
 returns-3 c =
     let e = sym (c .before .before .before .before .read-signed .ensures) ∙ c .before .before .current .given .1 in
-    rw (current-same _ (c .before .before .current .given .0 .0) e) at (c .read-first .ensures) ∙ sym (sample-read _ _ _ (c .before .before .before .before .before .field .ensures .0) (c .before .before .before .before .before .before .if1 .left) (c .before .before .current .given .0 .0) e)
+    rw (current-same _ (c .before .before .current .given .0 .0) e) at (c .read-numbers .ensures) ∙ sym (sample-read _ _ _ (c .before .before .before .before .before .field .ensures .0) (c .before .before .before .before .before .before .if1 .left) (c .before .before .current .given .0 .0) e)
 
 pub read-sample-spec : {M : Type 1} → statement M
 read-sample-spec =
@@ -63,5 +63,5 @@ read-sample-spec =
     returns-2
     add-next
     add-next-2
-    read-first-requires
+    read-numbers-requires
     returns-3)

@@ -38,9 +38,11 @@ add-result : tie.Need-add-result Inv-loop μ-loop
 add-result c = search needs
 
 returns-2 : tie.Need-returns-2 Inv-loop μ-loop
-returns-2 c = let l = c .before .before .before .before .before .loop in
-    (find-here _ _ (l .e + 1) (omega arith) (c .if2 .taken)
-    ∙ find-on _ _ (l .e) (omega arith) (c .before .before .if1 .left) ∙ l .inv .2, (omega arith, omega arith))
+returns-2 c = let l = c .before .before .before .before .before .loop in (
+  find-here _ _ (l .e + 1) (omega arith) (c .if2 .taken)
+      ∙ find-on _ _ (l .e) (omega arith) (c .before .before .if1 .left) ∙ l .inv .2,
+  (omega arith, omega arith),
+)
 
 add-if3 : tie.Need-add-if3 Inv-loop μ-loop
 add-if3 c = search needs
@@ -52,10 +54,12 @@ add-result-2 : tie.Need-add-result-2 Inv-loop μ-loop
 add-result-2 c = search needs
 
 returns-3 : tie.Need-returns-3 Inv-loop μ-loop
-returns-3 c = let l = c .before .before .before .before .before .before .before .loop in
-    (find-here _ _ (l .e + 2) (omega arith) (c .if3 .taken)
-    ∙ find-next _ _ (l .e + 1) (l .e + 2) (omega arith) (omega arith) (c .before .before .if2 .left)
-    ∙ find-on _ _ (l .e) (omega arith) (c .before .before .before .before .if1 .left) ∙ l .inv .2, (omega arith, omega arith))
+returns-3 c = let l = c .before .before .before .before .before .before .before .loop in (
+  find-here _ _ (l .e + 2) (omega arith) (c .if3 .taken)
+      ∙ find-next _ _ (l .e + 1) (l .e + 2) (omega arith) (omega arith) (c .before .before .if2 .left)
+      ∙ find-on _ _ (l .e) (omega arith) (c .before .before .before .before .if1 .left) ∙ l .inv .2,
+  (omega arith, omega arith),
+)
 
 add-if4 : tie.Need-add-if4 Inv-loop μ-loop
 add-if4 c = search needs
@@ -67,11 +71,13 @@ add-result-3 : tie.Need-add-result-3 Inv-loop μ-loop
 add-result-3 c = search needs
 
 returns-4 : tie.Need-returns-4 Inv-loop μ-loop
-returns-4 c = let l = c .before .before .before .before .before .before .before .before .before .loop in
-    (find-here _ _ (l .e + 3) (omega arith) (c .if4 .taken)
-    ∙ find-next _ _ (l .e + 2) (l .e + 3) (omega arith) (omega arith) (c .before .before .if3 .left)
-    ∙ find-next _ _ (l .e + 1) (l .e + 2) (omega arith) (omega arith) (c .before .before .before .before .if2 .left)
-    ∙ find-on _ _ (l .e) (omega arith) (c .before .before .before .before .before .before .if1 .left) ∙ l .inv .2, (omega arith, omega arith))
+returns-4 c = let l = c .before .before .before .before .before .before .before .before .before .loop in (
+  find-here _ _ (l .e + 3) (omega arith) (c .if4 .taken)
+      ∙ find-next _ _ (l .e + 2) (l .e + 3) (omega arith) (omega arith) (c .before .before .if3 .left)
+      ∙ find-next _ _ (l .e + 1) (l .e + 2) (omega arith) (omega arith) (c .before .before .before .before .if2 .left)
+      ∙ find-on _ _ (l .e) (omega arith) (c .before .before .before .before .before .before .if1 .left) ∙ l .inv .2,
+  (omega arith, omega arith),
+)
 
 add-e : tie.Need-add-e Inv-loop μ-loop
 add-e c = search needs
@@ -80,11 +86,14 @@ loop-less : tie.Need-loop-less Inv-loop μ-loop
 loop-less c = omega arith
 
 loop-again : tie.Need-loop-again Inv-loop μ-loop
-loop-again c = let l = c .before .before .before .before .before .before .before .before .before .loop in
-    (omega arith, omega arith, find-next _ _ (l .e + 3) (l .e + 4) (omega arith) (omega arith) (c .if4 .left)
-    ∙ find-next _ _ (l .e + 2) (l .e + 3) (omega arith) (omega arith) (c .before .before .if3 .left)
-    ∙ find-next _ _ (l .e + 1) (l .e + 2) (omega arith) (omega arith) (c .before .before .before .before .if2 .left)
-    ∙ find-on _ _ (l .e) (omega arith) (c .before .before .before .before .before .before .if1 .left) ∙ l .inv .2)
+loop-again c = let l = c .before .before .before .before .before .before .before .before .before .loop in (
+  omega arith,
+  omega arith,
+  find-next _ _ (l .e + 3) (l .e + 4) (omega arith) (omega arith) (c .if4 .left)
+      ∙ find-next _ _ (l .e + 2) (l .e + 3) (omega arith) (omega arith) (c .before .before .if3 .left)
+      ∙ find-next _ _ (l .e + 1) (l .e + 2) (omega arith) (omega arith) (c .before .before .before .before .if2 .left)
+      ∙ find-on _ _ (l .e) (omega arith) (c .before .before .before .before .before .before .if1 .left) ∙ l .inv .2,
+)
 
 find-slowly-requires : tie.Need-find-slowly-requires Inv-loop μ-loop
 find-slowly-requires c κs = search needs
