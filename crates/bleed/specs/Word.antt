@@ -4,18 +4,16 @@ use mathlib.Core.Path.{_≡_, refl, ap, _∙_}
 use mathlib.Core.Bool.{Bool, true, false, cond, _&&_}
 use mathlib.Core.List.{List, [], _∷_}
 use mathlib.Core.Logic.{⊎-elim}
-use Prim.Native.Nat.{ℕ, zero, suc, _+_, _-_, _*_, _/_, _%_, _^_, _≤_, _<_, zero-le}
-use native.Mathlib.Nat.{pow-suc, mod-lt, mod-eq-of-lt, div-div-eq-div-mul, eq-or-lt-of-le, le-of-suc-le-suc, not-suc-le-zero}
+use Prim.Native.Nat.{ℕ, zero, suc, _+_, _-_, _≤_, _<_, zero-le}
+use native.Mathlib.Nat.{eq-or-lt-of-le, le-of-suc-le-suc, not-suc-le-zero}
 use native.Mathlib.Numerals.{add-one}
 use native.Mathlib.Omega.{arith}
-use lib.Dec.{eqb, ltb, lit<}
+use lib.Dec.{eqb, ltb, leb}
 use lib.ListN.{length}
-use lib.Bits.{bitOr, or-shr, or-mod, or-zero-r}
-use lib.Count.{ones, onesIn, ones-step}
-use lib.Pow.{pow-lt}
-use borrow.Author.Tests.{eqb-true, eqb-false, eq-eqb, lt-ltb}
-use Rattle.laws.specs.Tests.{by-test, or-left, or-right}
-use Rattle.laws.specs.Bits.{hasBit, withBit, withBitIf, has-zero, has-same, has-other, ones-with}
+use lib.Count.{ones, onesIn}
+use borrow.Author.Tests.{eqb-true, eqb-false, eq-eqb, ltb-false, lt-ltb, le-ltb, le-leb, lt-leb}
+use Rattle.laws.specs.Tests.{by-test, by-order, or-left, or-right}
+use Rattle.laws.specs.Bits.{hasBit, withBit, withBitIf, has-zero, has-same, has-other, ones-with, ones-new}
 use Rattle.bleed.specs.Walk.{has}
 
 -- Cell k is in the set that the word stands for; there is no cell 0.
@@ -43,6 +41,27 @@ pub wordTo-next : (i : ℕ) (p : ℕ → Bool) (w r : ℕ) (b : Bool) → w ≡ 
     → r ≡ wordTo (i + 1) p
 unfolding wordTo
 wordTo-next i p w r b e t er = rw (add-one, er, t, e)
+
+-- A test that no cell passes makes the empty word,
+pub wordTo-none : (m : ℕ) (p : ℕ → Bool) → ((k : ℕ) → p k ≡ false) → wordTo m p ≡ 0
+unfolding wordTo withBitIf
+wordTo-none zero p h = refl
+wordTo-none (suc m) p h = rw (h (suc m)) (wordTo-none m p h)
+
+-- which holds no cell. A test of the first n cells alone makes the word of those.
+pub in-none : (k : ℕ) → inWord 0 k ≡ false
+unfolding inWord
+in-none k = by-test (ltb 0 k) (λ t. rw t (has-zero (k - 1))) (λ t. rw t)
+
+pub wordTo-within : (m n : ℕ) (p : ℕ → Bool) → wordTo m (λ k. leb k n && p k) ≡ wordTo (cond (ltb n m) n m) p
+unfolding wordTo withBitIf
+wordTo-within zero n p = rw (le-ltb n 0 zero-le)
+wordTo-within (suc m) n p =
+    by-order m n
+    (λ h. rw (le-leb (suc m) n h, le-ltb n (suc m) h) (ap (λ (w : ℕ). withBitIf (p (suc m)) w m) (wordTo-within m n p ∙ ap (λ (b : Bool). wordTo (cond b n m) p) (le-ltb n m (omega arith)))))
+    (λ h.
+    let all : cond (ltb n m) n m ≡ n = by-test (ltb n m) (λ t. rw t) (λ t. let q = ltb-false n m t in rw t (omega arith)) in
+    rw (lt-leb (suc m) n (omega arith), lt-ltb n (suc m) (omega arith)) (wordTo-within m n p ∙ ap (λ (x : ℕ). wordTo x p) all))
 
 wordTo-above : (m i : ℕ) (p : ℕ → Bool) → m ≤ i → hasBit (wordTo m p) i ≡ false
 unfolding wordTo withBitIf
@@ -98,36 +117,6 @@ wordOf-bit (d ∷ l) i s =
     rw t (has-other (wordOf l) (d - 1) i ne ∙ wordOf-bit l i (tail-small d l s)))
 
 -- ---- how many cells it has
-
-half-bit : (w i : ℕ) → w / 2 / 2 ^ i % 2 ≡ w / 2 ^ suc i % 2
-half-bit w i =
-    let p = pow-suc 2 i in
-    let e : 2 * 2 ^ i ≡ 2 ^ suc i = omega arith in
-    ap (λ (x : ℕ). x % 2) (div-div-eq-div-mul w 2 (2 ^ i) ∙ ap (λ (x : ℕ). w / x) e)
-
-ones-more : (i w : ℕ) → w / 2 ^ i % 2 ≡ 0 → ones (bitOr w (2 ^ i)) ≡ ones w + 1
-ones-more zero w e =
-    let low : bitOr w 1 % 2 ≡ bitOr (w % 2) 1 = or-mod w 1 1 in
-    let high : bitOr w 1 / 2 ≡ bitOr (w / 2) 0 = or-shr w 1 1 in
-    let z : w % 2 ≡ 0 = omega arith in
-    let u = ones-step w in
-    rw (ones-step (bitOr w 1), low, high, z, or-zero-r) (omega arith)
-ones-more (suc i) w e =
-    let p = pow-suc 2 i in
-    let even : 2 ^ suc i % 2 ≡ 0 = omega arith in
-    let half : 2 ^ suc i / 2 ≡ 2 ^ i = omega arith in
-    let low : bitOr w (2 ^ suc i) % 2 ≡ bitOr (w % 2) (2 ^ suc i % 2) = or-mod w (2 ^ suc i) 1 in
-    let high : bitOr w (2 ^ suc i) / 2 ≡ bitOr (w / 2) (2 ^ suc i / 2) = or-shr w (2 ^ suc i) 1 in
-    let rest = ones-more i (w / 2) (half-bit w i ∙ e) in
-    let u = ones-step w in
-    rw (ones-step (bitOr w (2 ^ suc i)), low, high, even, half, or-zero-r) (omega arith)
-
--- A bit that was not set adds one.
-ones-new : (w i : ℕ) → i < 16 → hasBit w i ≡ false → ones (withBit w i) ≡ ones w + 1
-unfolding withBit hasBit
-ones-new w i h e =
-    let z : w / 2 ^ i % 2 ≡ 0 = let ne = eqb-false (w / 2 ^ i % 2) 1 e in let m : w / 2 ^ i % 2 < 2 = mod-lt (w / 2 ^ i) (lit< tt) in omega arith in
-    rw (mod-eq-of-lt {n = 2 ^ i} {m = 65536} (pow-lt {i = i} {j = 16} h)) (ones-more i w z)
 
 -- A list of cells stands once for each.
 abbrev pub Once : List ℕ → Type 0

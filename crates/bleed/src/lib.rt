@@ -1,5 +1,7 @@
 // Which cells to bleed: who wants, who rests, the walk over the cells, and what is kept for the next sample.
 ghost use mathlib.Core.Path.{_≡_};
+ghost use mathlib.Core.Bool.{_&&_};
+ghost use lib.Dec.{leb, ltb};
 ghost use Rattle.bleed.specs.Wants.{isCharging, wants};
 ghost use Rattle.bleed.specs.Word.{inWord, withCellIf};
 ghost use Rattle.bleed.specs.Steps.{tenAtMost, wantingWord, restingWord, nextCell, nextRun, nextRuns, CellOf, Chosen, besideTaken, mayTake, takeOne};
@@ -60,6 +62,13 @@ pub fn wanting(
 ) -> u16
     ensures { λ r. ⌜ r ≡ wantingWord n charging raised (floor .0) (difference .0) (lowest .0) cells ⌝ }
 {
+    // A cell wants only if the current is at least the charge detection current, and no protection is raised.
+    if !charging {
+        return 0;
+    }
+    if raised {
+        return 0;
+    }
     let last = ten_at_most(n);
     let mut word: u16 = 0;
     let mut i: u8 = 0;
@@ -72,16 +81,22 @@ pub fn wanting(
     word
 }
 
-// The cells that rest, of cells 1 to n: those whose run has reached the limit R.
+// Cell `at` + 1 rests: it is a cell of the pack, and its run has reached the limit R.
+fn rests_one(n: u8, limit: u8, at: u8, run: u8) -> bool
+    ensures { λ r. ⌜ r ≡ ltb at n && leb limit run ⌝ }
+{
+    at < n && limit <= run
+}
+
+// The cells that rest, of cells 1 to n: those whose run has reached the limit R. All ten entries are asked.
 pub fn resting(n: u8, limit: u8, runs: [u8; 10]) -> u16
     ensures { λ r. ⌜ r ≡ restingWord n limit runs ⌝ }
 {
-    let last = ten_at_most(n);
     let mut word: u16 = 0;
     let mut i: u8 = 0;
-    while i < last {
-        let run = runs[i as usize];
-        word = with_bit_if(word, i, limit <= run);
+    while i < 10 {
+        let on = rests_one(n, limit, i, runs[i as usize]);
+        word = with_bit_if(word, i, on);
         i += 1;
     }
     word
@@ -162,6 +177,10 @@ pub fn choose(n: u8, most: u8, want: u16, rest: u16, start: CellNo) -> u16
     requires { ⌜ CellOf n (start .0) ⌝ }
     ensures { λ r. ⌜ Chosen n most want rest (start .0) r ⌝ }
 {
+    // The walk takes a cell only if it wants bleeding.
+    if want == 0 {
+        return 0;
+    }
     let mut taken: u16 = 0;
     let mut cell = start;
     let mut left = n;
@@ -190,6 +209,10 @@ fn next_run(bled: bool, run: u8) -> u8
 pub fn next_runs(bled: u16, runs: [u8; 10]) -> [u8; 10]
     ensures { λ r. ⌜ r ≡ nextRuns bled runs ⌝ }
 {
+    // No cell was bled: every run ends.
+    if bled == 0 {
+        return [0; 10];
+    }
     let mut next = runs;
     let mut i: u8 = 0;
     while i < 10 {

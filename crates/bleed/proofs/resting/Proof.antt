@@ -1,33 +1,35 @@
--- `bleed::resting` meets its contract. The loop's invariant: the word is that of the resting cells among the first i.
+-- `bleed::resting` meets its contract. The loop's invariant: the word is that of the resting cells of the pack among the first i.
 -- Assumes nothing.
 use Prim.Native.Nat.{_≤_, _-_}
-use mathlib.Core.Path.{_≡_, refl}
+use mathlib.Core.Path.{_≡_, refl, _∙_}
+use mathlib.Core.Bool.{_&&_}
 use native.Mathlib.Omega.{arith}
+use lib.Dec.{leb}
 use borrow.Author.Needs.{needs}
-use Rattle.bleed.specs.Word.{wordTo, wordTo-next}
-use Rattle.bleed.specs.Steps.{rested, restingWord}
-use Rattle.bleed.specs.StepLaws.{ten-small, rested-at}
+use Rattle.bleed.specs.Word.{wordTo, wordTo-next, wordTo-within}
+use Rattle.bleed.specs.Steps.{tenAtMost, rested, restingWord}
+use Rattle.bleed.specs.StepLaws.{rested-at}
 use Rattle.bleed.proofs.resting.Statement.{statement}
 use Rattle.bleed.proofs.resting.Tie as tie
 
 abbrev Inv-loop : tie.InvT-loop
-Inv-loop n limit runs last word₀ i₀ word i = (last ≤ 10) × (i ≤ last) × (word ≡ wordTo i (rested limit runs))
+Inv-loop n limit runs word₀ i₀ word i = (i ≤ 10) × (word ≡ wordTo i (λ k. leb k n && rested limit runs k))
 
 abbrev μ-loop : tie.MeasureT-loop
-μ-loop n limit runs last word₀ i₀ word i = last - i
-
-ten-at-most-requires : tie.Need-ten-at-most-requires Inv-loop μ-loop
-ten-at-most-requires c κs = search needs
+μ-loop n limit runs word₀ i₀ word i = 10 - i
 
 loop-holds : tie.Need-loop-holds Inv-loop μ-loop
 unfolding wordTo
-loop-holds c = (rw (c .ten-at-most .ensures) (ten-small _), omega arith, refl)
+loop-holds c = (omega arith, refl)
 
-cast-run : tie.Need-cast-run Inv-loop μ-loop
-cast-run c = search needs
+cast-rests-one : tie.Need-cast-rests-one Inv-loop μ-loop
+cast-rests-one c = search needs
 
-array-read-run : tie.Need-array-read-run Inv-loop μ-loop
-array-read-run c = search needs
+array-read-rests-one : tie.Need-array-read-rests-one Inv-loop μ-loop
+array-read-rests-one c = search needs
+
+rests-one-requires : tie.Need-rests-one-requires Inv-loop μ-loop
+rests-one-requires c κs = search needs
 
 with-bit-if-requires : tie.Need-with-bit-if-requires Inv-loop μ-loop
 with-bit-if-requires c κs = search needs
@@ -39,17 +41,16 @@ loop-less : tie.Need-loop-less Inv-loop μ-loop
 loop-less c = omega arith
 
 loop-again : tie.Need-loop-again Inv-loop μ-loop
-loop-again c = (
-  omega arith,
-  omega arith,
-  wordTo-next _ _ _ _ _ (c .before .before .loop .inv .2) (rested-at _ _ _) (c .with-bit-if .ensures),
-)
+loop-again c =
+    let a = c .before .before .before .before .args in (
+      omega arith,
+      wordTo-next _ _ _ _ _ (c .before .before .before .loop .inv .1)
+          (c .before .rests-one .ensures ∙ rested-at (a .n) (a .limit) _ (c .before .before .before .loop .i)) (c .with-bit-if .ensures),
+    )
 
 returns : tie.Need-returns Inv-loop μ-loop
-unfolding restingWord
-returns c =
-    let e : c .before .loop .i ≡ c .before .before .ten-at-most .result = omega arith in
-    rw (← (c .before .before .ten-at-most .ensures), ← e) (c .before .loop .inv .2)
+unfolding restingWord tenAtMost
+returns c = let e : c .before .loop .i ≡ 10 = omega arith in (rw e at (c .before .loop .inv .1)) ∙ wordTo-within 10 _ _
 
 pub resting-spec : {M : Type 1} → statement M
 resting-spec =
@@ -57,10 +58,10 @@ resting-spec =
     (tie.spec
     Inv-loop
     μ-loop
-    ten-at-most-requires
     loop-holds
-    cast-run
-    array-read-run
+    cast-rests-one
+    array-read-rests-one
+    rests-one-requires
     with-bit-if-requires
     add-i
     loop-less
