@@ -1,4 +1,4 @@
--- `bleed::wanting` meets its contract. The loop's invariant: the word is that of the wanting cells among the first i.
+-- `wishes::wanting` meets its contract. The loop's invariant: the word is that of the wanting cells among the first i.
 -- Assumes nothing.
 use Prim.Native.Nat.{_≤_, _-_}
 use mathlib.Core.Path.{_≡_, refl, sym, _∙_}
@@ -6,11 +6,11 @@ use mathlib.Core.Logic.{inl, inr}
 use native.Mathlib.Omega.{arith}
 use borrow.Author.Needs.{needs}
 use borrow.Author.Tests.{not-true}
-use Rattle.bleed.specs.Word.{wordTo, wordTo-next}
-use Rattle.bleed.specs.Steps.{wishes, wantingWord}
-use Rattle.bleed.specs.StepLaws.{wanting-none, ten-small, wishes-at}
-use Rattle.bleed.proofs.wanting.Statement.{statement}
-use Rattle.bleed.proofs.wanting.Tie as tie
+use Rattle.wishes.specs.Word.{wordTo, wordTo-next}
+use Rattle.wishes.specs.Steps.{wishes, wantingWord}
+use Rattle.wishes.specs.StepLaws.{wanting-none, ten-small, wishes-at}
+use Rattle.wishes.proofs.wanting.Statement.{statement}
+use Rattle.wishes.proofs.wanting.Tie as tie
 
 abbrev Inv-loop : tie.InvT-loop
 Inv-loop n charging raised floor difference lowest cells last word₀ i₀ word i =
