@@ -19,13 +19,15 @@ use Rattle.laws.specs.Tests.{by-test}
 use Rattle.laws.specs.Bits.{hasBit, has-zero}
 use Rattle.laws.specs.Each.{each-length, each-below}
 use Rattle.laws.specs.Latest.{run, lastAll-run}
+use Rattle.wishes.specs.Word.{inWord, wordTo-in}
+use Rattle.wishes.specs.Steps.{runOf, wishes, wantingWord, rested, restingWord}
+use Rattle.wishes.specs.StepLaws.{ten-is}
 use Rattle.bleed.specs.Walk.{has, upFrom, order}
 use Rattle.bleed.specs.WalkLaws.{walk-same, order-only, only-cells}
 use Rattle.bleed.specs.History.{resting, startCell, bleds}
 use Rattle.bleed.specs.Demand.{run-short, never-more, never-neighbours}
-use Rattle.bleed.specs.Word.{inWord, wordOf, wordTo-in, wordOf-bit, wordOf-few}
-use Rattle.bleed.specs.Steps.{runOf, wishes, wantingWord, rested, restingWord, nextCell, nextRun, nextRuns, chosenWord, CellOf}
-use Rattle.bleed.specs.StepLaws.{ten-is}
+use Rattle.bleed.specs.Word.{wordOf, wordOf-bit, wordOf-few}
+use Rattle.bleed.specs.Steps.{nextCell, nextRun, nextRuns, chosenWord, CellOf}
 
 -- ---- the definitions
 

@@ -2,25 +2,21 @@
 -- not do where n + 1 do.
 -- Assumes nothing.
 use mathlib.Core.Path.{_≡_, refl}
-use mathlib.Core.Bool.{Bool, true, false, _&&_}
+use mathlib.Core.Bool.{Bool, true, _&&_}
 use mathlib.Core.List.{List, [], _∷_, _++_, map, reverse}
 use mathlib.Core.Logic.{⊎-elim}
 use Prim.Native.Nat.{ℕ, zero, suc, _+_, _-_, _≤_, _<_}
 use native.Mathlib.Nat.{eq-or-lt-of-le}
 use native.Mathlib.Omega.{arith}
 use lib.Dec.{eqb}
-use lib.IntN.{pos, negsuc}
 use lib.ListN.{take, replicate}
 use borrow.Author.Tests.{eqb-true}
-use Rattle.units.specs.declared.MilliVolts.{MilliVolts}
 use Rattle.laws.specs.Tests.{and-left, and-right}
-use Rattle.laws.specs.Bits.{withBit, withBitIf}
+use Rattle.laws.specs.Bits.{withBit}
 use Rattle.laws.specs.Latest.{lastAll, among}
-use Rattle.bleed.specs.Wants.{isCharging, wants}
 use Rattle.bleed.specs.Walk.{has, upFrom}
 use Rattle.bleed.specs.History.{wantsCell, bleds}
-use Rattle.bleed.specs.Word.{wordOf, wordTo}
-use Rattle.bleed.specs.Steps.{tenAtMost, cellOf, runOf, wishes, wantingWord, rested, restingWord}
+use Rattle.bleed.specs.Word.{wordOf}
 
 -- The cells that want at each sample, in the order of time, as a history of wishes.
 abbrev pub history : List (List ℕ) → List (ℕ → Bool)
@@ -74,42 +70,12 @@ most-taken = refl
 run-limit : bled 2 1 2 (replicate 5 (1 ∷ [])) ≡ (1 ∷ []) ∷ (1 ∷ []) ∷ [] ∷ (1 ∷ []) ∷ (1 ∷ []) ∷ []
 run-limit = refl
 
--- "More than" the difference, "at or above" the floor, "at least" the detection current, which is signed.
-abbrev tests : List Bool
-tests =
-    wants true false 3900 10 4000 4010
-    ∷ wants true false 3900 10 4000 4011
-    ∷ wants true false 3900 10 3000 3899
-    ∷ wants true false 3900 10 3000 3900
-    ∷ wants true true 3900 10 4000 4011
-    ∷ wants false false 3900 10 4000 4011
-    ∷ isCharging (pos 100) (pos 99)
-    ∷ isCharging (pos 100) (pos 100)
-    ∷ isCharging (pos 100) (negsuc 0)
-    ∷ []
-
-wants-exactly : tests ≡ false ∷ true ∷ false ∷ true ∷ false ∷ false ∷ false ∷ true ∷ false ∷ []
-unfolding wants
-wants-exactly = refl
-
 -- ---- the words
 
 -- Cell 1 is bit 0, cell 10 is bit 9.
 ends-of-a-word : wordOf (1 ∷ 10 ∷ []) ≡ 0x201
 unfolding withBit
 ends-of-a-word = refl
-
-abbrev volts : List MilliVolts
-volts = map (λ v. record { 0 = v }) (4011 ∷ 4000 ∷ 4010 ∷ 4500 ∷ 4500 ∷ 0 ∷ 0 ∷ 0 ∷ 0 ∷ 4500 ∷ [])
-
--- Of a pack of four cells only cells 1 to 4 want; a number over ten stands for ten.
-four-cells : wantingWord 4 true false 3900 10 4000 volts ∷ wantingWord 11 true false 3900 10 4000 volts ∷ [] ≡ 0x009 ∷ 0x219 ∷ []
-unfolding wantingWord wordTo wishes cellOf wants tenAtMost withBitIf withBit
-four-cells = refl
-
-counters-rest : restingWord 3 2 (2 ∷ 1 ∷ 3 ∷ 240 ∷ 0 ∷ 0 ∷ 0 ∷ 0 ∷ 0 ∷ 0 ∷ []) ≡ 0x005
-unfolding restingWord wordTo rested runOf tenAtMost withBitIf withBit
-counters-rest = refl
 
 -- ---- n would not do
 

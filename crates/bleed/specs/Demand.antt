@@ -8,12 +8,12 @@ use Prim.Native.Nat.{ℕ, zero, suc, _+_, _-_, _*_, _/_, _%_, _≤_, _<_, zero-l
 use native.Mathlib.Omega.{arith}
 use native.Mathlib.Nat.{div-add-mod', mod-lt, mul-add-mod-self-right, mod-eq-of-lt, lt-of-lt-of-le, zero-lt-suc, not-suc-le-zero}
 use lib.ListN.{length, drop, length-drop, getD}
-use borrow.Author.Tests.{leb-false}
+use borrow.Author.Tests.{not-true, leb-false}
 use Rattle.laws.specs.Tests.{by-test, clash, and-left, and-right}
 use Rattle.laws.specs.Latest.{lastAll, run, among, lastAll-run, lastAll-le, lastAll-length, among-le}
 use Rattle.bleed.specs.Walk.{has, chosen}
 use Rattle.bleed.specs.History.{wantsCell, resting, startCell, bleds}
-use Rattle.bleed.specs.WalkLaws.{not-says, at-most-K, no-neighbours, only-wanting, own-turn}
+use Rattle.bleed.specs.WalkLaws.{at-most-K, no-neighbours, only-wanting, own-turn}
 
 no-less : (b : Bool) (x : ℕ) → x ≤ cond b (suc x) x
 no-less true x = omega arith
@@ -48,7 +48,7 @@ module _ (n K R : ℕ) where
       let b : List ℕ = chosen n K w (resting R (bleds n K R ws)) (startCell n (length ws)) in
       let r : resting R (bleds n K R ws) k ≡ true = and-right (has k b) (resting R (bleds n K R ws) k) u in
       let o = only-wanting n K w (resting R (bleds n K R ws)) (startCell n (length ws)) k (and-left (has k b) _ u) in
-      clash r (not-says (resting R (bleds n K R ws) k) (and-right (w k) (not (resting R (bleds n K R ws) k)) o)))
+      clash r (not-true (resting R (bleds n K R ws) k) (and-right (w k) (not (resting R (bleds n K R ws) k)) o)))
       (λ u. u)
 
   -- and not at any R + 1 before.

@@ -6,5 +6,4 @@ pub mod StepLaws
 pub mod Steps
 pub mod Walk
 pub mod WalkLaws
-pub mod Wants
 pub mod Word

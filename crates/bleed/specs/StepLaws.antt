@@ -8,18 +8,18 @@ use Prim.Native.Nat.{ℕ, zero, suc, _+_, _-_, _≤_, _<_}
 use native.Mathlib.Nat.{not-suc-le-zero, zero-lt-suc, le-trans}
 use native.Mathlib.Numerals.{add-one}
 use native.Mathlib.Omega.{arith}
-use lib.Dec.{leb, ltb, eqb}
-use lib.ListN.{length, getD, set, length-append}
+use lib.Dec.{ltb, eqb}
+use lib.ListN.{length, getD, set, length-append, replicate, getD-replicate}
+use lib.Seq.{ext-getD}
 use borrow.Author.Tests.{lt-ltb, le-ltb, ltb-true, ltb-false, eq-eqb, ne-eqb, eqb-true}
 use Rattle.laws.specs.Tests.{by-test, clash, test-ext, and-left, and-right, or-left, or-right, or-cases}
-use Rattle.laws.specs.Bits.{hasBit, withBitIf}
-use Rattle.laws.specs.Each.{each-next}
+use Rattle.laws.specs.Bits.{hasBit, withBitIf, has-zero}
+use Rattle.laws.specs.Each.{each-next, each-length, each-below}
+use Rattle.wishes.specs.Word.{inWord, in-none}
 use Rattle.bleed.specs.Walk.{has, neighbours, hasNeighbour, upFrom, order, takes, walk, chosen}
-use Rattle.bleed.specs.WalkLaws.{neighbour-of, has-append, upFrom-only, order-only, at-most-K, no-neighbours, only-cells}
-use Rattle.bleed.specs.Word.{inWord, withCellIf, wordOf, Small, Once, wordOf-bit, wordOf-ones, wordOf-few}
-use Rattle.units.specs.declared.MilliVolts.{MilliVolts}
-use Rattle.bleed.specs.Wants.{wants}
-use Rattle.bleed.specs.Steps.{tenAtMost, cellOf, runOf, wishes, rested, nextCell, nextRun, nextRunsTo, chosenWord, CellOf, Chosen, besideTaken, mayTake, takeOne, takeFrom}
+use Rattle.bleed.specs.WalkLaws.{neighbour-of, has-append, upFrom-only, order-only, at-most-K, no-neighbours, only-cells, walk-none}
+use Rattle.bleed.specs.Word.{withCellIf, wordOf, Small, Once, wordOf-bit, wordOf-ones, wordOf-few}
+use Rattle.bleed.specs.Steps.{nextCell, nextRun, nextRunsTo, nextRuns, chosenWord, CellOf, Chosen, besideTaken, mayTake, takeOne, takeFrom}
 
 -- ---- the order of the walk is the next cell, again and again
 
@@ -178,29 +178,27 @@ chosen-meets n K want rest start word c e =
           (sym (wordOf-bit b i cells) ∙ (rw e at p)) (sym (wordOf-bit b (suc i) cells) ∙ (rw (e, add-one) at q));
     }
 
+-- ---- answers that need no loop
+
+-- Nothing is chosen if no cell wants.
+pub chosen-none : (n K rest start : ℕ) → chosenWord n K 0 rest start ≡ 0
+unfolding chosenWord
+chosen-none n K rest start = ap wordOf (walk-none K (inWord 0) (inWord rest) in-none (order n start) [])
+
+-- Every run ends where no cell was bled.
+pub runs-none : (runs : List ℕ) → length runs ≡ 10 → nextRuns 0 runs ≡ replicate 10 0
+unfolding nextRuns nextRun
+runs-none runs e =
+    let long : length (nextRuns 0 runs) ≡ 10 = each-length 0 (λ i run. nextRun (hasBit 0 i) run) 10 runs ∙ e in
+    ext-getD 0 (nextRuns 0 runs) (replicate 10 0) long
+    (λ i h.
+    each-below 0 (λ j run. nextRun (hasBit 0 j) run) 10 runs i (omega arith) (omega arith)
+    ∙ rw (has-zero i) (sym (getD-replicate 10 i 0 0 (omega arith))))
+
 -- ---- one turn of each loop
-
-pub ten-small : (n : ℕ) → tenAtMost n ≤ 10
-unfolding tenAtMost
-ten-small n = by-test (ltb n 10) (λ t. let q = ltb-true n 10 t in rw t (omega arith)) (λ t. rw t (omega arith))
-
-pub ten-is : (n : ℕ) → n ≤ 10 → tenAtMost n ≡ n
-unfolding tenAtMost
-ten-is n h = by-test (ltb n 10) (λ t. rw t) (λ t. let q = ltb-false n 10 t in rw t (omega arith))
 
 after-one : (i : ℕ) → suc i - 1 ≡ i
 after-one i = omega arith
-
--- Cell i + 1 is entry i of the array.
-pub wishes-at : (charges raised : Bool) (floor difference lowest : ℕ) (cells : List MilliVolts) (i : ℕ)
-    → wants charges raised floor difference lowest (getD cells i (record { 0 = 0 }) .0) ≡ wishes charges raised floor difference lowest cells (suc i)
-unfolding wishes cellOf
-wishes-at charges raised floor difference lowest cells i =
-    ap (λ (x : ℕ). wants charges raised floor difference lowest (getD cells x (record { 0 = 0 }) .0)) (sym (after-one i))
-
-pub rested-at : (R : ℕ) (runs : List ℕ) (i : ℕ) → leb R (getD runs i 0) ≡ rested R runs (suc i)
-unfolding rested runOf
-rested-at R runs i = rw (after-one i)
 
 pub runs-next : (bled i : ℕ) (runs l : List ℕ) (b : Bool) (r : ℕ) → l ≡ nextRunsTo bled i runs → b ≡ hasBit bled i
     → r ≡ nextRun b (getD l i 0) → set l i r ≡ nextRunsTo bled (i + 1) runs

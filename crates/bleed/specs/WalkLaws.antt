@@ -8,13 +8,9 @@ use Prim.Native.Nat.{ℕ, zero, suc, _+_, _-_, _≤_, _<_, zero-le}
 use native.Mathlib.Omega.{arith}
 use lib.Dec.{leb, ltb, eqb}
 use lib.ListN.{length}
-use borrow.Author.Tests.{lt-ltb, eq-eqb, eqb-true, eqb-false, ltb-true, ltb-false, leb-true, leb-false}
+use borrow.Author.Tests.{not-true, lt-ltb, eq-eqb, eqb-true, eqb-false, ltb-true, ltb-false, leb-true, leb-false}
 use Rattle.laws.specs.Tests.{by-test, clash, and-left, and-right, or-left, or-right, or-cases}
 use Rattle.bleed.specs.Walk.{has, neighbours, hasNeighbour, upFrom, order, takes, walk, chosen}
-
-pub not-says : (b : Bool) → not b ≡ true → b ≡ false
-not-says true e = absurd (true≢false (sym e))
-not-says false e = refl
 
 -- A cell of the set that is a neighbour of k makes k have a neighbour there.
 pub neighbour-of : (k d : ℕ) (l : List ℕ) → has d l ≡ true → neighbours k d ≡ true → hasNeighbour k l ≡ true
@@ -53,9 +49,14 @@ module _ (K : ℕ) (wants rests : ℕ → Bool) where
   takes-says k t e =
       let a = and-left (wants k && not (rests k) && not (hasNeighbour k t)) (ltb (length t) K) e in (
         and-left (wants k && not (rests k)) (not (hasNeighbour k t)) a,
-        not-says (hasNeighbour k t) (and-right (wants k && not (rests k)) (not (hasNeighbour k t)) a),
+        not-true (hasNeighbour k t) (and-right (wants k && not (rests k)) (not (hasNeighbour k t)) a),
         ltb-true (length t) K (and-right (wants k && not (rests k) && not (hasNeighbour k t)) (ltb (length t) K) e),
       )
+
+  -- The walk takes nothing if no cell wants.
+  pub walk-none : ((k : ℕ) → wants k ≡ false) → (cells t : List ℕ) → walk K wants rests cells t ≡ t
+  walk-none h [] t = refl
+  walk-none h (k ∷ cells) t = rw (h k) (walk-none h cells t)
 
   pub walk-few : (cells t : List ℕ) → length t ≤ K → length (walk K wants rests cells t) ≤ K
   walk-few cells t h = walk-keeps (λ l. length l ≤ K) (λ d l e i. takes-says d l e .2) cells t h

@@ -1,26 +1,18 @@
--- A set of cells as a word: bit k - 1 for cell k.
+-- A list of cells as a word: bit k - 1 for cell k.
 -- Assumes nothing.
 use mathlib.Core.Path.{_≡_, refl, ap, _∙_}
-use mathlib.Core.Bool.{Bool, true, false, cond, _&&_}
+use mathlib.Core.Bool.{Bool, true, false, cond}
 use mathlib.Core.List.{List, [], _∷_}
-use mathlib.Core.Logic.{⊎-elim}
-use Prim.Native.Nat.{ℕ, zero, suc, _+_, _-_, _*_, _/_, _%_, _^_, _≤_, _<_, zero-le}
-use native.Mathlib.Nat.{pow-suc, mod-lt, mod-eq-of-lt, div-div-eq-div-mul, eq-or-lt-of-le, le-of-suc-le-suc, not-suc-le-zero}
+use Prim.Native.Nat.{ℕ, suc, _-_, _≤_, zero-le}
 use native.Mathlib.Numerals.{add-one}
 use native.Mathlib.Omega.{arith}
-use lib.Dec.{eqb, ltb, lit<}
+use lib.Dec.{eqb, ltb}
 use lib.ListN.{length}
-use lib.Bits.{bitOr, or-shr, or-mod, or-zero-r}
-use lib.Count.{ones, onesIn, ones-step}
-use lib.Pow.{pow-lt}
-use borrow.Author.Tests.{eqb-true, eqb-false, eq-eqb, lt-ltb}
+use lib.Count.{ones, onesIn}
+use borrow.Author.Tests.{eqb-true, eqb-false, eq-eqb}
 use Rattle.laws.specs.Tests.{by-test, or-left, or-right}
-use Rattle.laws.specs.Bits.{hasBit, withBit, withBitIf, has-zero, has-same, has-other, ones-with}
+use Rattle.laws.specs.Bits.{hasBit, withBit, withBitIf, has-zero, has-same, has-other, ones-with, ones-new}
 use Rattle.bleed.specs.Walk.{has}
-
--- Cell k is in the set that the word stands for; there is no cell 0.
-unfoldable pub inWord : ℕ → ℕ → Bool
-inWord w k = ltb 0 k && hasBit w (k - 1)
 
 -- The word with cell k in it where the test holds.
 unfoldable pub withCellIf : Bool → ℕ → ℕ → ℕ
@@ -30,47 +22,6 @@ withCellIf b w k = cond (ltb 0 k) (withBitIf b w (k - 1)) w
 abbrev pub wordOf : List ℕ → ℕ
 wordOf [] = 0
 wordOf (k ∷ l) = withBit (wordOf l) (k - 1)
-
--- The word of those of the cells 1 to m that pass a test.
-unfoldable pub wordTo : ℕ → (ℕ → Bool) → ℕ
-wordTo zero p = 0
-wordTo (suc i) p = withBitIf (p (suc i)) (wordTo i p) i
-
--- ---- a word made bit by bit
-
--- One turn of a loop that makes the word: cell i + 1 has bit i.
-pub wordTo-next : (i : ℕ) (p : ℕ → Bool) (w r : ℕ) (b : Bool) → w ≡ wordTo i p → b ≡ p (suc i) → r ≡ withBitIf b w i
-    → r ≡ wordTo (i + 1) p
-unfolding wordTo
-wordTo-next i p w r b e t er = rw (add-one, er, t, e)
-
-wordTo-above : (m i : ℕ) (p : ℕ → Bool) → m ≤ i → hasBit (wordTo m p) i ≡ false
-unfolding wordTo withBitIf
-wordTo-above zero i p h = has-zero i
-wordTo-above (suc m) i p h =
-    by-test (p (suc m))
-    (λ t. rw t (has-other (wordTo m p) m i (λ e. omega arith) ∙ wordTo-above m i p (omega arith)))
-    (λ t. rw t (wordTo-above m i p (omega arith)))
-
--- Its bits are the test's answers.
-wordTo-bit : (m i : ℕ) (p : ℕ → Bool) → m ≤ 16 → i < m → hasBit (wordTo m p) i ≡ p (suc i)
-unfolding wordTo withBitIf
-wordTo-bit zero i p h q = absurd (not-suc-le-zero q)
-wordTo-bit (suc m) i p h q =
-    ⊎-elim
-    (λ (e : i ≡ m). rw e (by-test (p (suc m))
-    (λ t. rw t (has-same (wordTo m p) m (omega arith)))
-    (λ t. rw t (wordTo-above m m p (omega arith)))))
-    (λ (lt : i < m). by-test (p (suc m))
-    (λ t. rw t (has-other (wordTo m p) m i (λ e. omega arith) ∙ wordTo-bit m i p (omega arith) lt))
-    (λ t. rw t (wordTo-bit m i p (omega arith) lt)))
-    (eq-or-lt-of-le (le-of-suc-le-suc q))
-
--- The word shows of each of the cells 1 to m whether it passes.
-pub wordTo-in : (m k : ℕ) (p : ℕ → Bool) → m ≤ 16 → 1 ≤ k → k ≤ m → inWord (wordTo m p) k ≡ p k
-unfolding inWord
-wordTo-in m zero p h a b = absurd (not-suc-le-zero a)
-wordTo-in m (suc i) p h a b = let e : suc i - 1 ≡ i = omega arith in rw (lt-ltb 0 (suc i) a, e) (wordTo-bit m i p h b)
 
 -- ---- the word of a list of cells
 
@@ -98,36 +49,6 @@ wordOf-bit (d ∷ l) i s =
     rw t (has-other (wordOf l) (d - 1) i ne ∙ wordOf-bit l i (tail-small d l s)))
 
 -- ---- how many cells it has
-
-half-bit : (w i : ℕ) → w / 2 / 2 ^ i % 2 ≡ w / 2 ^ suc i % 2
-half-bit w i =
-    let p = pow-suc 2 i in
-    let e : 2 * 2 ^ i ≡ 2 ^ suc i = omega arith in
-    ap (λ (x : ℕ). x % 2) (div-div-eq-div-mul w 2 (2 ^ i) ∙ ap (λ (x : ℕ). w / x) e)
-
-ones-more : (i w : ℕ) → w / 2 ^ i % 2 ≡ 0 → ones (bitOr w (2 ^ i)) ≡ ones w + 1
-ones-more zero w e =
-    let low : bitOr w 1 % 2 ≡ bitOr (w % 2) 1 = or-mod w 1 1 in
-    let high : bitOr w 1 / 2 ≡ bitOr (w / 2) 0 = or-shr w 1 1 in
-    let z : w % 2 ≡ 0 = omega arith in
-    let u = ones-step w in
-    rw (ones-step (bitOr w 1), low, high, z, or-zero-r) (omega arith)
-ones-more (suc i) w e =
-    let p = pow-suc 2 i in
-    let even : 2 ^ suc i % 2 ≡ 0 = omega arith in
-    let half : 2 ^ suc i / 2 ≡ 2 ^ i = omega arith in
-    let low : bitOr w (2 ^ suc i) % 2 ≡ bitOr (w % 2) (2 ^ suc i % 2) = or-mod w (2 ^ suc i) 1 in
-    let high : bitOr w (2 ^ suc i) / 2 ≡ bitOr (w / 2) (2 ^ suc i / 2) = or-shr w (2 ^ suc i) 1 in
-    let rest = ones-more i (w / 2) (half-bit w i ∙ e) in
-    let u = ones-step w in
-    rw (ones-step (bitOr w (2 ^ suc i)), low, high, even, half, or-zero-r) (omega arith)
-
--- A bit that was not set adds one.
-ones-new : (w i : ℕ) → i < 16 → hasBit w i ≡ false → ones (withBit w i) ≡ ones w + 1
-unfolding withBit hasBit
-ones-new w i h e =
-    let z : w / 2 ^ i % 2 ≡ 0 = let ne = eqb-false (w / 2 ^ i % 2) 1 e in let m : w / 2 ^ i % 2 < 2 = mod-lt (w / 2 ^ i) (lit< tt) in omega arith in
-    rw (mod-eq-of-lt {n = 2 ^ i} {m = 65536} (pow-lt {i = i} {j = 16} h)) (ones-more i w z)
 
 -- A list of cells stands once for each.
 abbrev pub Once : List ℕ → Type 0

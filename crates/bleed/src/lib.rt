@@ -1,91 +1,11 @@
-// Which cells to bleed: who wants, who rests, the walk over the cells, and what is kept for the next sample.
+// Which cells to bleed: the walk over the cells that want and do not rest, and what is kept for the next sample.
 ghost use mathlib.Core.Path.{_≡_};
-ghost use Rattle.bleed.specs.Wants.{isCharging, wants};
-ghost use Rattle.bleed.specs.Word.{inWord, withCellIf};
-ghost use Rattle.bleed.specs.Steps.{tenAtMost, wantingWord, restingWord, nextCell, nextRun, nextRuns, CellOf, Chosen, besideTaken, mayTake, takeOne};
+ghost use Rattle.wishes.specs.Word.{inWord};
+ghost use Rattle.bleed.specs.Word.{withCellIf};
+ghost use Rattle.bleed.specs.Steps.{nextCell, nextRun, nextRuns, CellOf, Chosen, besideTaken, mayTake, takeOne};
 use laws::has_bit;
 use laws::with_bit_if;
 use units::CellNo;
-use units::MilliVolts;
-
-// The current is at least the charge detection current.
-pub fn is_charging(detection: i16, current: i16) -> bool
-    ensures { λ r. ⌜ r ≡ isCharging detection current ⌝ }
-{
-    detection <= current
-}
-
-// One cell's wish. The lowest cell and the difference may come to more than 16 bits hold.
-pub fn wants_one(
-    charging: bool,
-    raised: bool,
-    floor: MilliVolts,
-    difference: MilliVolts,
-    lowest: MilliVolts,
-    cell: MilliVolts,
-) -> bool
-    ensures { λ r. ⌜ r ≡ wants charging raised (floor .0) (difference .0) (lowest .0) (cell .0) ⌝ }
-{
-    if charging {
-        if raised {
-            return false;
-        }
-        if cell.0 < floor.0 {
-            return false;
-        }
-        return (lowest.0 as u32) + (difference.0 as u32) < cell.0 as u32;
-    }
-    false
-}
-
-// A pack has ten cells at most: a larger number stands for ten.
-fn ten_at_most(n: u8) -> u8
-    ensures { λ r. ⌜ r ≡ tenAtMost n ⌝ }
-{
-    if n < 10 {
-        return n;
-    }
-    10
-}
-
-// The cells that want bleeding, of cells 1 to n: bit k - 1 for cell k.
-pub fn wanting(
-    n: u8,
-    charging: bool,
-    raised: bool,
-    floor: MilliVolts,
-    difference: MilliVolts,
-    lowest: MilliVolts,
-    cells: [MilliVolts; 10],
-) -> u16
-    ensures { λ r. ⌜ r ≡ wantingWord n charging raised (floor .0) (difference .0) (lowest .0) cells ⌝ }
-{
-    let last = ten_at_most(n);
-    let mut word: u16 = 0;
-    let mut i: u8 = 0;
-    while i < last {
-        let cell = cells[i as usize];
-        let on = wants_one(charging, raised, floor, difference, lowest, cell);
-        word = with_bit_if(word, i, on);
-        i += 1;
-    }
-    word
-}
-
-// The cells that rest, of cells 1 to n: those whose run has reached the limit R.
-pub fn resting(n: u8, limit: u8, runs: [u8; 10]) -> u16
-    ensures { λ r. ⌜ r ≡ restingWord n limit runs ⌝ }
-{
-    let last = ten_at_most(n);
-    let mut word: u16 = 0;
-    let mut i: u8 = 0;
-    while i < last {
-        let run = runs[i as usize];
-        word = with_bit_if(word, i, limit <= run);
-        i += 1;
-    }
-    word
-}
 
 // Cell k's bit, k - 1, is set in a word of cells; there is no cell 0.
 fn holds(word: u16, cell: CellNo) -> bool
@@ -162,6 +82,10 @@ pub fn choose(n: u8, most: u8, want: u16, rest: u16, start: CellNo) -> u16
     requires { ⌜ CellOf n (start .0) ⌝ }
     ensures { λ r. ⌜ Chosen n most want rest (start .0) r ⌝ }
 {
+    // The walk takes a cell only if it wants bleeding.
+    if want == 0 {
+        return 0;
+    }
     let mut taken: u16 = 0;
     let mut cell = start;
     let mut left = n;
@@ -190,6 +114,10 @@ fn next_run(bled: bool, run: u8) -> u8
 pub fn next_runs(bled: u16, runs: [u8; 10]) -> [u8; 10]
     ensures { λ r. ⌜ r ≡ nextRuns bled runs ⌝ }
 {
+    // No cell was bled: every run ends.
+    if bled == 0 {
+        return [0; 10];
+    }
     let mut next = runs;
     let mut i: u8 = 0;
     while i < 10 {

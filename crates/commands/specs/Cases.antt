@@ -19,8 +19,8 @@ use Rattle.guard.specs.Measure.{measure}
 use Rattle.guard.specs.Steps.{raised}
 use Rattle.guard.specs.Words.{bitsOf, anyOf, raisedWord, someRaised, blocked}
 use Rattle.bleed.specs.Balance.{bledWord}
-use Rattle.bleed.specs.Steps.{cellOf, wishes}
-use Rattle.bleed.specs.Wants.{wants}
+use Rattle.wishes.specs.Steps.{cellOf, wishes}
+use Rattle.wishes.specs.Wants.{wants}
 use Rattle.bleed.specs.Word.{withCellIf}
 use Rattle.samples.specs.Samples.{cellsFit, keptCell, trimmed, sampleRefusals, sampleVerdict, commandRefusals, commandVerdict}
 use Rattle.settings.specs.declared.Rules.{Rules}

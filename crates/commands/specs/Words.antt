@@ -17,7 +17,7 @@ use Rattle.units.specs.Signed.{wordOf}
 use Rattle.guard.specs.declared.Sample.{Sample}
 use Rattle.guard.specs.Cells.{noVolts, lookedAt}
 use Rattle.guard.specs.Words.{raisedAfter, raisedWord, raisedBits, blocked, blocksAny}
-use Rattle.bleed.specs.Wants.{isCharging}
+use Rattle.wishes.specs.Wants.{isCharging}
 use Rattle.settings.specs.declared.Settings.{Settings}
 use Rattle.pack.specs.declared.Pack.{Pack}
 use Rattle.pack.specs.Events.{Past}

@@ -8,7 +8,6 @@ ghost use Rattle.guard.specs.Words.{blocksAny};
 ghost use Rattle.pack.specs.Kept.{Kept};
 ghost use Rattle.commands.specs.Table.{rowOf};
 ghost use Rattle.commands.specs.Words.{sumTo, cellWord, heatRaised, packWord, sentWord, saidOf, statusOf, raisedAndSwitches, Bounded};
-use bleed::is_charging;
 use guard::Sample;
 use guard::blocks;
 use guard::looked_at;
@@ -22,6 +21,7 @@ use settings::Rules;
 use units::CellNo;
 use units::MilliVolts;
 use units::word_of;
+use wishes::is_charging;
 
 // The words that a pack has one of.
 pub enum PackWord {

@@ -13,7 +13,7 @@ use Rattle.settings.specs.declared.Settings.{Settings}
 use Rattle.settings.specs.Good.{Good}
 use Rattle.bleed.specs.Walk.{has}
 use Rattle.bleed.specs.History.{bleds}
-use Rattle.bleed.specs.Word.{inWord}
+use Rattle.wishes.specs.Word.{inWord}
 use Rattle.bleed.specs.Balance.{bledWord, bledNow, bled-bit}
 use Rattle.pack.specs.State.{wishesOf, bledAfter}
 

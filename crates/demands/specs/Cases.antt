@@ -16,11 +16,12 @@ use Rattle.guard.specs.Numbered.{listOf, listFrom}
 use Rattle.guard.specs.Measure.{measure}
 use Rattle.guard.specs.Steps.{raised, protectionsOf, protectionOf, stepAllWith, stepWith, stepOne}
 use Rattle.guard.specs.Words.{bitsOf, anyOf, raisedBits, anyRaised, blocksOne, blocksAny, someRaised}
-use Rattle.bleed.specs.Wants.{wants}
-use Rattle.bleed.specs.Word.{inWord, wordTo}
+use Rattle.wishes.specs.Wants.{wants}
+use Rattle.wishes.specs.Word.{inWord, wordTo}
 use Rattle.bleed.specs.History.{wantsCell}
 use Rattle.bleed.specs.Balance.{bledWord}
-use Rattle.bleed.specs.Steps.{tenAtMost, cellOf, runOf, wishes, wantingWord, rested, restingWord, nextCell, nextRun, nextRuns, chosenWord}
+use Rattle.wishes.specs.Steps.{tenAtMost, cellOf, runOf, wishes, wantingWord, rested, restingWord}
+use Rattle.bleed.specs.Steps.{nextCell, nextRun, nextRuns, chosenWord}
 use Rattle.samples.specs.Samples.{cellsFit, sampleRefusals, sampleVerdict, commandRefusals, commandVerdict, keptCell, trimmed}
 use Rattle.units.specs.Signed.{signedOf}
 use Rattle.laws.specs.Latest.{lastAll, among}

@@ -25,7 +25,7 @@ use Rattle.settings.specs.declared.Settings.{Settings}
 use Rattle.settings.specs.Good.{Good, accepted-good}
 use Rattle.bleed.specs.Walk.{has}
 use Rattle.bleed.specs.History.{bleds}
-use Rattle.bleed.specs.Word.{inWord}
+use Rattle.wishes.specs.Word.{inWord}
 use Rattle.bleed.specs.History.{wantsCell}
 use Rattle.bleed.specs.Demand.{fair-anywhere, never-over-R}
 use Rattle.bleed.specs.Balance.{bled-few, bled-apart}

@@ -28,11 +28,11 @@ use Rattle.bleed.specs.Demand.{bleds-drop}
 use Rattle.pack.specs.Kept.{pageOf, pastAfter}
 use Rattle.pack.specs.Calls.{page-accepted}
 use Rattle.bleed.specs.Walk.{has, neighbours, hasNeighbour, chosen}
-use Rattle.bleed.specs.WalkLaws.{only-wanting, only-cells, no-waste, not-says}
+use Rattle.bleed.specs.WalkLaws.{only-wanting, only-cells, no-waste}
 use Rattle.bleed.specs.History.{wantsCell, resting, startCell, bleds}
-use Rattle.bleed.specs.Wants.{wants}
-use Rattle.bleed.specs.Steps.{wishes, cellOf}
-use Rattle.bleed.specs.Word.{inWord}
+use Rattle.wishes.specs.Wants.{wants}
+use Rattle.wishes.specs.Steps.{wishes, cellOf}
+use Rattle.wishes.specs.Word.{inWord}
 use Rattle.pack.specs.State.{wishAt, wishesOf}
 use Rattle.demands.specs.BledWords.{bledWords, words-alike, alike-drop, alike-among}
 

@@ -5,12 +5,13 @@ use mathlib.Core.Path.{_≡_, refl, sym, ap, _∙_}
 use mathlib.Core.Bool.{Bool, true, false, cond}
 use mathlib.Core.Logic.{_⊎_, inl, inr, ⊎-elim}
 use Prim.Native.Nat.{ℕ, zero, suc, _+_, _-_, _*_, _/_, _%_, _^_, _≤_, _<_, zero-le}
-use native.Mathlib.Nat.{le-trans, le-of-eq, pow-suc, mod-lt, mod-eq-of-lt, div-eq-of-lt, lt-of-lt-of-le, zero-add, add-zero}
+use native.Mathlib.Nat.{le-trans, le-of-eq, pow-suc, mod-lt, mod-eq-of-lt, div-eq-of-lt, div-div-eq-div-mul, lt-of-lt-of-le, zero-add, add-zero}
 use native.Mathlib.Omega.{arith}
 use lib.Dec.{eqb, lit<}
 use lib.Bits.{bitOr, bitAnd, or-shr, or-mod, or-add-and, or-zero-r, or-zero-l}
 use lib.Count.{ones, onesIn, ones-step, ones-cat}
 use lib.Pow.{pow-pos, pow-mono, pow-lt, pow-add, shl-shr}
+use borrow.Author.Tests.{eqb-false}
 use Rattle.laws.specs.Tests.{by-order}
 
 -- Bit i of the word w is set.
@@ -131,3 +132,33 @@ ones-with w i =
     rw (bit-in i h) (omega arith))
     (λ (h : 16 ≤ i). rw (bit-past i h, or-zero-r) (omega arith))
     (lt-or-le i 16)
+
+half-bit : (w i : ℕ) → w / 2 / 2 ^ i % 2 ≡ w / 2 ^ suc i % 2
+half-bit w i =
+    let p = pow-suc 2 i in
+    let e : 2 * 2 ^ i ≡ 2 ^ suc i = omega arith in
+    ap (λ (x : ℕ). x % 2) (div-div-eq-div-mul w 2 (2 ^ i) ∙ ap (λ (x : ℕ). w / x) e)
+
+ones-more : (i w : ℕ) → w / 2 ^ i % 2 ≡ 0 → ones (bitOr w (2 ^ i)) ≡ ones w + 1
+ones-more zero w e =
+    let low : bitOr w 1 % 2 ≡ bitOr (w % 2) 1 = or-mod w 1 1 in
+    let high : bitOr w 1 / 2 ≡ bitOr (w / 2) 0 = or-shr w 1 1 in
+    let z : w % 2 ≡ 0 = omega arith in
+    let u = ones-step w in
+    rw (ones-step (bitOr w 1), low, high, z, or-zero-r) (omega arith)
+ones-more (suc i) w e =
+    let p = pow-suc 2 i in
+    let even : 2 ^ suc i % 2 ≡ 0 = omega arith in
+    let half : 2 ^ suc i / 2 ≡ 2 ^ i = omega arith in
+    let low : bitOr w (2 ^ suc i) % 2 ≡ bitOr (w % 2) (2 ^ suc i % 2) = or-mod w (2 ^ suc i) 1 in
+    let high : bitOr w (2 ^ suc i) / 2 ≡ bitOr (w / 2) (2 ^ suc i / 2) = or-shr w (2 ^ suc i) 1 in
+    let rest = ones-more i (w / 2) (half-bit w i ∙ e) in
+    let u = ones-step w in
+    rw (ones-step (bitOr w (2 ^ suc i)), low, high, even, half, or-zero-r) (omega arith)
+
+-- A bit that was not set adds one.
+pub ones-new : (w i : ℕ) → i < 16 → hasBit w i ≡ false → ones (withBit w i) ≡ ones w + 1
+unfolding withBit hasBit
+ones-new w i h e =
+    let z : w / 2 ^ i % 2 ≡ 0 = let ne = eqb-false (w / 2 ^ i % 2) 1 e in let m : w / 2 ^ i % 2 < 2 = mod-lt (w / 2 ^ i) (lit< tt) in omega arith in
+    rw (bit-in i h) (ones-more i w z)

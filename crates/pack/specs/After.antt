@@ -11,7 +11,7 @@ use Rattle.protections.specs.Table.{protections}
 use Rattle.guard.specs.Steps.{raised}
 use Rattle.guard.specs.Words.{raisedAfter, raisedWord, raisedBits, raisedBits-is, blocksAny-is, raisedWord-has}
 use Rattle.settings.specs.declared.Settings.{Settings}
-use Rattle.bleed.specs.Wants.{isCharging}
+use Rattle.wishes.specs.Wants.{isCharging}
 use Rattle.bleed.specs.Walk.{has}
 use Rattle.pack.specs.declared.Pack.{Pack}
 use Rattle.pack.specs.declared.Answered.{Answered}

@@ -14,7 +14,7 @@ use Rattle.protections.specs.declared.Mode.{Mode}
 use Rattle.protections.specs.declared.Mode.the-variants.{Silent, Number}
 use Rattle.guard.specs.declared.Sample.{Sample}
 use Rattle.guard.specs.Words.{raisedAfter, raisedWord, blocked, raisedBits, blocksAny}
-use Rattle.bleed.specs.Wants.{isCharging}
+use Rattle.wishes.specs.Wants.{isCharging}
 use Rattle.settings.specs.declared.Settings.{Settings}
 use Rattle.pack.specs.declared.Pack.{Pack}
 use Rattle.pack.specs.declared.Decision.{Decision}

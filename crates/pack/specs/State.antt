@@ -19,10 +19,11 @@ use Rattle.page.specs.declared.Verdict.{Verdict}
 use Rattle.page.specs.declared.Verdict.the-variants.{Accepted, Refused}
 use Rattle.settings.specs.declared.Rules.{Rules}
 use Rattle.settings.specs.declared.Settings.{Settings}
-use Rattle.bleed.specs.Wants.{isCharging}
-use Rattle.bleed.specs.Steps.{wishes, wantingWord, restingWord, chosenWord, nextCell, nextRuns, CellOf}
+use Rattle.wishes.specs.Wants.{isCharging}
+use Rattle.wishes.specs.Steps.{wishes, wantingWord, restingWord}
+use Rattle.bleed.specs.Steps.{chosenWord, nextCell, nextRuns, CellOf}
 use Rattle.bleed.specs.History.{bleds, resting, startCell}
-use Rattle.bleed.specs.Word.{wordTo}
+use Rattle.wishes.specs.Word.{wordTo}
 use Rattle.bleed.specs.Balance.{runsOf, bledWord}
 use Rattle.pack.specs.declared.Balance.{Balance}
 use Rattle.pack.specs.declared.Pack.{Pack}

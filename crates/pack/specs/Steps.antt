@@ -21,9 +21,10 @@ use Rattle.guard.specs.Words.{anyRaised, someRaised, anyRaised-is}
 use Rattle.settings.specs.declared.Settings.{Settings}
 use Rattle.settings.specs.Good.{Good, GoodLimits}
 use Rattle.bleed.specs.History.{bleds, resting, startCell}
-use Rattle.bleed.specs.Word.{wordTo}
-use Rattle.bleed.specs.Steps.{wantingWord, restingWord, rested, chosenWord, nextCell, nextRuns, CellOf, wishes, tenAtMost}
-use Rattle.bleed.specs.StepLaws.{ten-is}
+use Rattle.wishes.specs.Word.{wordTo}
+use Rattle.wishes.specs.Steps.{wantingWord, restingWord, rested, wishes, tenAtMost}
+use Rattle.bleed.specs.Steps.{chosenWord, nextCell, nextRuns, CellOf}
+use Rattle.wishes.specs.StepLaws.{ten-is}
 use Rattle.bleed.specs.Balance.{runsOf, bledWord, Shows, wanting-shows, start-cell, next-start-is, rested-is, choose-is, runs-are}
 use Rattle.settings.specs.declared.Rules.{Rules}
 use Rattle.pack.specs.declared.Balance.{Balance}

@@ -6,11 +6,8 @@ ghost use Rattle.pack.specs.State.{noSample, nextTick, wantWith, freshBa
 ghost use Rattle.pack.specs.Kept.{Kept, afterLoad};
 ghost use Rattle.pack.specs.Shown.{switchOn, switchesOf, modeNumber, modeOrder, firstMode, flowMode, modeOf, decisionOf};
 use bleed::choose;
-use bleed::is_charging;
 use bleed::next_runs;
 use bleed::next_start;
-use bleed::resting;
-use bleed::wanting;
 use guard::Extremes;
 use guard::Protection;
 use guard::Sample;
@@ -35,6 +32,9 @@ use units::CellNo;
 use units::DeciKelvin;
 use units::MilliVolts;
 use units::ProtectionNo;
+use wishes::is_charging;
+use wishes::resting;
+use wishes::wanting;
 
 // What bleeding keeps: of the latest accepted sample its start cell, who rested and who was bled; for the next one the start
 // cell, and at how many samples in a row up to now each cell was bled. Bit k - 1 of a word stands for cell k.

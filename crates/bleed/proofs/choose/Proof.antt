@@ -5,7 +5,7 @@ use mathlib.Core.Path.{_≡_, refl, sym, _∙_}
 use native.Mathlib.Omega.{arith}
 use borrow.Author.Needs.{needs}
 use Rattle.bleed.specs.Steps.{takeFrom}
-use Rattle.bleed.specs.StepLaws.{take-on, take-none, chosen-is, chosen-meets}
+use Rattle.bleed.specs.StepLaws.{take-on, take-none, chosen-is, chosen-meets, chosen-none}
 use Rattle.bleed.proofs.choose.Statement.{statement}
 use Rattle.bleed.proofs.choose.Tie as tie
 
@@ -15,6 +15,9 @@ Inv-loop n most want rest taken₀ cell₀ left₀ taken cell left =
 
 abbrev μ-loop : tie.MeasureT-loop
 μ-loop n most want rest taken₀ cell₀ left₀ taken cell left = left
+
+returns : tie.Need-returns Inv-loop μ-loop
+returns c = chosen-meets _ _ _ _ _ _ (c .before .pre) (rw (c .if1 .taken) (sym (chosen-none _ _ _ _)))
 
 loop-holds : tie.Need-loop-holds Inv-loop μ-loop
 loop-holds c = refl
@@ -36,11 +39,11 @@ loop-again c =
     rw (c .next-start .ensures, c .before .take-one .ensures)
     (sym (take-on _ _ _ _ _ _ _ (c .before .before .loop-test .taken)) ∙ c .before .before .before .loop .inv)
 
-returns : tie.Need-returns Inv-loop μ-loop
-returns c =
+returns-2 : tie.Need-returns-2 Inv-loop μ-loop
+returns-2 c =
     let e : c .before .loop .left ≡ 0 = omega arith in
-    chosen-meets _ _ _ _ _ _ (c .before .before .pre)
-    (sym (take-none _ _ _ _ _ _) ∙ (rw e at (c .before .loop .inv)) ∙ chosen-is _ _ _ _ _ (c .before .before .pre))
+    chosen-meets _ _ _ _ _ _ (c .before .before .before .pre)
+    (sym (take-none _ _ _ _ _ _) ∙ (rw e at (c .before .loop .inv)) ∙ chosen-is _ _ _ _ _ (c .before .before .before .pre))
 
 pub choose-spec : {M : Type 1} → statement M
 choose-spec =
@@ -48,10 +51,11 @@ choose-spec =
     (tie.spec
     Inv-loop
     μ-loop
+    returns
     loop-holds
     take-one-requires
     next-start-requires
     sub-left
     loop-less
     loop-again
-    returns)
+    returns-2)

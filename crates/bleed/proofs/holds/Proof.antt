@@ -1,7 +1,7 @@
 -- `bleed::holds` meets its contract. Assumes nothing.
 use borrow.Author.Needs.{needs}
 use borrow.Author.Tests.{lt-ltb, le-ltb}
-use Rattle.bleed.specs.Word.{inWord}
+use Rattle.wishes.specs.Word.{inWord}
 use Rattle.bleed.proofs.holds.Statement.{statement}
 use Rattle.bleed.proofs.holds.Tie as tie
 

@@ -1,12 +1,13 @@
 -- `bleed::next_runs` meets its contract. The loop's invariant: the first i counters are stepped, the others are as they were.
 -- Assumes nothing.
 use Prim.Native.Nat.{_≤_, _-_}
-use mathlib.Core.Path.{_≡_, refl}
+use mathlib.Core.Path.{_≡_, refl, sym}
 use native.Mathlib.Omega.{arith}
+use lib.ListN.{length}
 use borrow.Author.Needs.{needs}
 use Rattle.laws.specs.Each.{eachTo}
 use Rattle.bleed.specs.Steps.{nextRunsTo, nextRuns}
-use Rattle.bleed.specs.StepLaws.{runs-next}
+use Rattle.bleed.specs.StepLaws.{runs-none, runs-next}
 use Rattle.bleed.proofs.next_runs.Statement.{statement}
 use Rattle.bleed.proofs.next_runs.Tie as tie
 
@@ -15,6 +16,9 @@ Inv-loop bled next₀ i₀ next i = (i ≤ 10) × (next ≡ nextRunsTo bled i ne
 
 abbrev μ-loop : tie.MeasureT-loop
 μ-loop bled next₀ i₀ next i = 10 - i
+
+returns : tie.Need-returns Inv-loop μ-loop
+returns c = rw (c .if1 .taken) (sym (runs-none _ (let l : length (c .before .args .runs) ≡ 10 = search needs in l)))
 
 loop-holds : tie.Need-loop-holds Inv-loop μ-loop
 unfolding eachTo
@@ -45,9 +49,9 @@ loop-again : tie.Need-loop-again Inv-loop μ-loop
 loop-again c =
     (omega arith, runs-next _ _ _ _ _ _ (c .before .before .before .loop .inv .1) (c .before .has-bit .ensures) (c .next-run .ensures))
 
-returns : tie.Need-returns Inv-loop μ-loop
+returns-2 : tie.Need-returns-2 Inv-loop μ-loop
 unfolding nextRuns
-returns c = let e : c .before .loop .i ≡ 10 = omega arith in rw e at (c .before .loop .inv .1)
+returns-2 c = let e : c .before .loop .i ≡ 10 = omega arith in rw e at (c .before .loop .inv .1)
 
 pub next-runs-spec : {M : Type 1} → statement M
 next-runs-spec =
@@ -55,6 +59,7 @@ next-runs-spec =
     (tie.spec
     Inv-loop
     μ-loop
+    returns
     loop-holds
     cast-at
     has-bit-requires
@@ -64,4 +69,4 @@ next-runs-spec =
     add-i
     loop-less
     loop-again
-    returns)
+    returns-2)

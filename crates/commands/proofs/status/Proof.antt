@@ -1,7 +1,7 @@
 -- `commands::status` meets its contract. Assumes nothing.
 use Rattle.commands.specs.Words.{heatRaised, saidOf, status-built}
 use Rattle.laws.specs.Bits.{hasBit}
-use Rattle.bleed.specs.Wants.{isCharging}
+use Rattle.wishes.specs.Wants.{isCharging}
 use mathlib.Core.Path.{ap, ap₂, _∙_}
 use mir.Facts.{toZ-ofZ}
 use mir.Syntax.{w16}

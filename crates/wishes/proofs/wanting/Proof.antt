@@ -1,14 +1,16 @@
--- `bleed::wanting` meets its contract. The loop's invariant: the word is that of the wanting cells among the first i.
+-- `wishes::wanting` meets its contract. The loop's invariant: the word is that of the wanting cells among the first i.
 -- Assumes nothing.
 use Prim.Native.Nat.{_≤_, _-_}
-use mathlib.Core.Path.{_≡_, refl, _∙_}
+use mathlib.Core.Path.{_≡_, refl, sym, _∙_}
+use mathlib.Core.Logic.{inl, inr}
 use native.Mathlib.Omega.{arith}
 use borrow.Author.Needs.{needs}
-use Rattle.bleed.specs.Word.{wordTo, wordTo-next}
-use Rattle.bleed.specs.Steps.{wishes, wantingWord}
-use Rattle.bleed.specs.StepLaws.{ten-small, wishes-at}
-use Rattle.bleed.proofs.wanting.Statement.{statement}
-use Rattle.bleed.proofs.wanting.Tie as tie
+use borrow.Author.Tests.{not-true}
+use Rattle.wishes.specs.Word.{wordTo, wordTo-next}
+use Rattle.wishes.specs.Steps.{wishes, wantingWord}
+use Rattle.wishes.specs.StepLaws.{wanting-none, ten-small, wishes-at}
+use Rattle.wishes.proofs.wanting.Statement.{statement}
+use Rattle.wishes.proofs.wanting.Tie as tie
 
 abbrev Inv-loop : tie.InvT-loop
 Inv-loop n charging raised floor difference lowest cells last word₀ i₀ word i =
@@ -16,6 +18,12 @@ Inv-loop n charging raised floor difference lowest cells last word₀ i₀ word 
 
 abbrev μ-loop : tie.MeasureT-loop
 μ-loop n charging raised floor difference lowest cells last word₀ i₀ word i = last - i
+
+returns : tie.Need-returns Inv-loop μ-loop
+returns c = sym (wanting-none _ _ _ _ _ _ _ (inl (not-true _ (c .if1 .taken))))
+
+returns-2 : tie.Need-returns-2 Inv-loop μ-loop
+returns-2 c = sym (wanting-none _ _ _ _ _ _ _ (inr (c .if2 .taken)))
 
 ten-at-most-requires : tie.Need-ten-at-most-requires Inv-loop μ-loop
 ten-at-most-requires c κs = search needs
@@ -53,9 +61,9 @@ loop-again c = (
       (c .before .wants-one .ensures ∙ wishes-at _ _ _ _ _ _ _) (c .with-bit-if .ensures),
 )
 
-returns : tie.Need-returns Inv-loop μ-loop
+returns-3 : tie.Need-returns-3 Inv-loop μ-loop
 unfolding wantingWord
-returns c =
+returns-3 c =
     let e : c .before .loop .i ≡ c .before .before .ten-at-most .result = omega arith in
     rw (← (c .before .before .ten-at-most .ensures), ← e) (c .before .loop .inv .2)
 
@@ -65,6 +73,8 @@ wanting-spec =
     (tie.spec
     Inv-loop
     μ-loop
+    returns
+    returns-2
     ten-at-most-requires
     loop-holds
     cast-cell
@@ -75,4 +85,4 @@ wanting-spec =
     add-i
     loop-less
     loop-again
-    returns)
+    returns-3)

@@ -1,8 +1,8 @@
--- `bleed::ten_at_most` meets its contract. Assumes nothing.
+-- `wishes::ten_at_most` meets its contract. Assumes nothing.
 use borrow.Author.Tests.{lt-ltb, le-ltb}
-use Rattle.bleed.specs.Steps.{tenAtMost}
-use Rattle.bleed.proofs.ten_at_most.Statement.{statement}
-use Rattle.bleed.proofs.ten_at_most.Tie as tie
+use Rattle.wishes.specs.Steps.{tenAtMost}
+use Rattle.wishes.proofs.ten_at_most.Statement.{statement}
+use Rattle.wishes.proofs.ten_at_most.Tie as tie
 
 returns : tie.Need-returns
 unfolding tenAtMost

@@ -1,10 +1,10 @@
--- `bleed::wants_one` meets its contract: a test that fails ends it, and the last one is the answer. Assumes nothing.
+-- `wishes::wants_one` meets its contract: a test that fails ends it, and the last one is the answer. Assumes nothing.
 use native.Mathlib.Omega.{arith}
 use borrow.Author.Needs.{needs}
 use borrow.Author.Tests.{lt-leb, le-leb}
-use Rattle.bleed.specs.Wants.{wants}
-use Rattle.bleed.proofs.wants_one.Statement.{statement}
-use Rattle.bleed.proofs.wants_one.Tie as tie
+use Rattle.wishes.specs.Wants.{wants}
+use Rattle.wishes.proofs.wants_one.Statement.{statement}
+use Rattle.wishes.proofs.wants_one.Tie as tie
 
 returns : tie.Need-returns
 unfolding wants
