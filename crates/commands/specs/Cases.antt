@@ -13,11 +13,12 @@ use Rattle.units.specs.Signed.{wordOf}
 use Rattle.page.specs.Page.{within}
 use Rattle.protections.specs.declared.Limits.{Limits}
 use Rattle.protections.specs.Table.{rowAt, table as rows}
-use Rattle.guard.specs.Cells.{bestOf, extremesOf}
-use Rattle.guard.specs.Cases.{minus, sampled, limited}
-use Rattle.guard.specs.Measure.{measure}
+use Rattle.quantities.specs.Cells.{bestOf, extremesOf}
+use Rattle.quantities.specs.Cases.{minus, sampled}
+use Rattle.guard.specs.Cases.{limited}
+use Rattle.quantities.specs.Measure.{measure}
 use Rattle.guard.specs.Steps.{raised}
-use Rattle.guard.specs.Words.{bitsOf, anyOf, raisedWord, someRaised, blocked}
+use Rattle.raised.specs.Words.{bitsOf, anyOf, raisedWord, someRaised, blocked}
 use Rattle.bleed.specs.Balance.{bledWord}
 use Rattle.bleed.specs.Steps.{cellOf, wishes}
 use Rattle.bleed.specs.Wants.{wants}

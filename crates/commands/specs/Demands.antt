@@ -14,12 +14,12 @@ use Rattle.protections.specs.Table.{protections}
 use Rattle.page.specs.Page.{wordAt, judged}
 use Rattle.page.specs.Accepted.{accepted-ranges}
 use Rattle.page.specs.declared.Verdict.the-variants.{Accepted}
-use Rattle.guard.specs.Words.{raisedAfter, blocksAny-is, raisedWord-has}
+use Rattle.raised.specs.Words.{raisedAfter, blocksAny-is, raisedWord-has}
 use Rattle.settings.specs.declared.Settings.{Settings}
 use Rattle.settings.specs.Settings.{rulesOf, settingsOf}
 use Rattle.bleed.specs.Balance.{bled-few}
 use Rattle.pack.specs.declared.Pack.{Pack}
-use Rattle.guard.specs.declared.Sample.{Sample}
+use Rattle.quantities.specs.declared.Sample.{Sample}
 use Rattle.pack.specs.Events.{Event, Past, past}
 use Rattle.pack.specs.State.{wishesOf, bledAfter, balanceAfter, stateOf}
 use Rattle.pack.specs.Kept.{pageOf, pastAfter, stateAfter}

@@ -11,11 +11,11 @@ use Rattle.units.specs.declared.MilliVolts.{MilliVolts}
 use Rattle.laws.specs.Bits.{hasBit, withBit, withBitIf}
 use Rattle.laws.specs.Each.{eachTo}
 use Rattle.protections.specs.Table.{rowAt, table}
-use Rattle.guard.specs.Cells.{bestOf, extremesOf}
-use Rattle.guard.specs.Numbered.{listOf, listFrom}
-use Rattle.guard.specs.Measure.{measure}
+use Rattle.quantities.specs.Cells.{bestOf, extremesOf}
+use Rattle.laws.specs.Numbered.{listOf, listFrom}
+use Rattle.quantities.specs.Measure.{measure}
 use Rattle.guard.specs.Steps.{raised, protectionsOf, protectionOf, stepAllWith, stepWith, stepOne}
-use Rattle.guard.specs.Words.{bitsOf, anyOf, raisedBits, anyRaised, blocksOne, blocksAny, someRaised}
+use Rattle.raised.specs.Words.{bitsOf, anyOf, raisedBits, anyRaised, blocksOne, blocksAny, someRaised}
 use Rattle.bleed.specs.Wants.{wants}
 use Rattle.bleed.specs.Word.{inWord, wordTo}
 use Rattle.bleed.specs.History.{wantsCell}
@@ -28,7 +28,7 @@ use Rattle.crc.specs.CheckByte.{timesX, timesXs, withByte, remainder, checkByte
 use Rattle.page.specs.Page.{wordAt, within, degreesFit, levelFits, levelOf, refusals, judged, answerOf}
 use Rattle.page.specs.declared.Verdict.the-variants.{Accepted}
 use Rattle.page.specs.Worked.{workedPage, pageWith, put}
-use Rattle.guard.specs.declared.Sample.{Sample}
+use Rattle.quantities.specs.declared.Sample.{Sample}
 use Rattle.settings.specs.declared.Rules.{Rules}
 use Rattle.settings.specs.declared.Settings.{Settings}
 use Rattle.settings.specs.declared.Loaded.{Loaded}

@@ -17,9 +17,9 @@ use Rattle.page.specs.Page.{judged}
 use Rattle.page.specs.Refusals.{NoFault, Lowest, none-exactly, refuse-exactly}
 use Rattle.page.specs.Exactly.{refused-not, refused-one}
 use Rattle.page.specs.declared.Verdict.the-variants.{Accepted, Refused}
-use Rattle.guard.specs.declared.Sample.{Sample}
+use Rattle.quantities.specs.declared.Sample.{Sample}
 use Rattle.guard.specs.Steps.{raised, limitsAt}
-use Rattle.guard.specs.Words.{raisedWord-has}
+use Rattle.raised.specs.Words.{raisedWord-has}
 use Rattle.samples.specs.Samples.{sampleRefusals, sampleVerdict, commandRefusals, commandVerdict}
 use Rattle.settings.specs.declared.Settings.{Settings}
 use Rattle.settings.specs.Good.{Good, accepted-good}

@@ -9,7 +9,7 @@ use lib.Dec.{lit<}
 use Rattle.laws.specs.Bits.{hasBit}
 use Rattle.protections.specs.Table.{protections}
 use Rattle.guard.specs.Steps.{raised}
-use Rattle.guard.specs.Words.{raisedAfter, raisedWord, raisedBits, raisedBits-is, blocksAny-is, raisedWord-has}
+use Rattle.raised.specs.Words.{raisedAfter, raisedWord, raisedBits, raisedBits-is, blocksAny-is, raisedWord-has}
 use Rattle.settings.specs.declared.Settings.{Settings}
 use Rattle.bleed.specs.Wants.{isCharging}
 use Rattle.bleed.specs.Walk.{has}

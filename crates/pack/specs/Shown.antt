@@ -12,8 +12,8 @@ use Rattle.laws.specs.Bits.{hasBit, withBitIf}
 use Rattle.protections.specs.Table.{rowAt}
 use Rattle.protections.specs.declared.Mode.{Mode}
 use Rattle.protections.specs.declared.Mode.the-variants.{Silent, Number}
-use Rattle.guard.specs.declared.Sample.{Sample}
-use Rattle.guard.specs.Words.{raisedAfter, raisedWord, blocked, raisedBits, blocksAny}
+use Rattle.quantities.specs.declared.Sample.{Sample}
+use Rattle.raised.specs.Words.{raisedAfter, raisedWord, blocked, raisedBits, blocksAny}
 use Rattle.bleed.specs.Wants.{isCharging}
 use Rattle.settings.specs.declared.Settings.{Settings}
 use Rattle.pack.specs.declared.Pack.{Pack}

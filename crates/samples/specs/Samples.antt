@@ -18,8 +18,8 @@ use Rattle.page.specs.Page.{within}
 use Rattle.page.specs.Refusals.{Rule, rule, Refusal, refusal, first}
 use Rattle.page.specs.declared.Verdict.{Verdict}
 use Rattle.page.specs.declared.Verdict.the-variants.{Accepted, Refused}
-use Rattle.guard.specs.Cells.{noVolts, lookedAt}
-use Rattle.guard.specs.declared.Sample.{Sample}
+use Rattle.quantities.specs.Cells.{noVolts, lookedAt}
+use Rattle.quantities.specs.declared.Sample.{Sample}
 
 -- A rule of a whole sample or command names word 0.
 abbrev whole : Bool → List Rule

@@ -6,7 +6,7 @@ use mir.Val.{toZ}
 use mathlib.Core.Path.{_≡_, refl, sym, ap, _∙_}
 use Prim.Native.Nat.{_≤_, _+_, _-_}
 use lib.ListN.{length, replicate, length-set}
-use Rattle.guard.specs.Cells.{noVolts}
+use Rattle.quantities.specs.Cells.{noVolts}
 use Rattle.entries.specs.Entry.{cellsFrom}
 use Rattle.entries.specs.Left.{left, left-none, left-next}
 use Rattle.entries.specs.Reading.{cell-over, cell-none, cell-next}
