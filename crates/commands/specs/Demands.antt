@@ -23,9 +23,10 @@ use Rattle.quantities.specs.declared.Sample.{Sample}
 use Rattle.pack.specs.Events.{Event, Past, past}
 use Rattle.pack.specs.State.{wishesOf, bledAfter, balanceAfter, stateOf}
 use Rattle.pack.specs.Kept.{pageOf, pastAfter, stateAfter}
-use Rattle.pack.specs.Shown.{switchAfter, switchesWord}
+use Rattle.shown.specs.Shown.{switchAfter, switchesWord}
 use Rattle.pack.specs.Calls.{page-accepted}
-use Rattle.pack.specs.After.{after, after-is, switches-is, raised-is, mode-is}
+use Rattle.pack.specs.After.{after, after-is}
+use Rattle.shown.specs.Decided.{switches-is, raised-is, mode-is}
 use Rattle.commands.specs.declared.Sends.{Sends}
 use Rattle.commands.specs.declared.Sends.the-variants.{Nothing, Cell, Whole}
 use Rattle.commands.specs.declared.PackWord.{PackWord}

@@ -22,7 +22,7 @@ use Rattle.settings.specs.declared.Settings.{Settings}
 use Rattle.pack.specs.declared.Pack.{Pack}
 use Rattle.pack.specs.Events.{Past}
 use Rattle.pack.specs.State.{latestOf, bledAfter}
-use Rattle.pack.specs.Shown.{switchAfter, switchesOf, modeAfter, modeOf}
+use Rattle.shown.specs.Shown.{switchAfter, switchesOf, modeAfter, modeOf}
 use Rattle.commands.specs.declared.Sends.{Sends}
 use Rattle.commands.specs.declared.Sends.the-variants.{Nothing, Cell, Whole}
 use Rattle.commands.specs.declared.PackWord.{PackWord}

@@ -36,12 +36,12 @@ use Rattle.settings.specs.Settings.{inDegrees, tripLevel, releaseLevel, limitsA
 use Rattle.settings.specs.Cases.{workedRules, worked, worked-loaded}
 use Rattle.pack.specs.declared.Pack.{Pack}
 use Rattle.pack.specs.declared.Answered.{Answered}
-use Rattle.pack.specs.declared.Decision.{Decision}
+use Rattle.shown.specs.declared.Decision.{Decision}
 use Rattle.pack.specs.Events.{Event, offer, command, accepts}
 use Rattle.pack.specs.State.{wishAt, wishesOf, bledAfter, freshPack, freshBalance, nextTick, nextBalance, wantWith, acceptedPack, offered, withCommand, commanded}
 use Rattle.pack.specs.Kept.{pageOf}
 use Rattle.demands.specs.BledWords.{bledWords}
-use Rattle.pack.specs.Shown.{modeOrder, firstMode, switchesOf, modeOf, decisionOf}
+use Rattle.shown.specs.Shown.{modeOrder, firstMode, switchesOf, modeOf, decisionOf}
 
 -- ---- samples and answers, written short
 

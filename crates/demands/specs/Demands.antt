@@ -30,13 +30,14 @@ use Rattle.bleed.specs.History.{wantsCell}
 use Rattle.bleed.specs.Demand.{fair-anywhere, never-over-R}
 use Rattle.bleed.specs.Balance.{bled-few, bled-apart}
 use Rattle.pack.specs.declared.Pack.{Pack}
-use Rattle.pack.specs.declared.Decision.{Decision}
+use Rattle.shown.specs.declared.Decision.{Decision}
 use Rattle.pack.specs.Events.{Event, command}
 use Rattle.pack.specs.State.{wishesOf, bledAfter, offered, commanded}
 use Rattle.pack.specs.Kept.{pageOf, pastAfter, stateAfter}
-use Rattle.pack.specs.Shown.{switchAfter, decisionAfter, switchOn, decisionOf}
+use Rattle.shown.specs.Shown.{switchAfter, decisionAfter, switchOn, decisionOf}
 use Rattle.pack.specs.Calls.{page-accepted}
-use Rattle.pack.specs.After.{after, after-is, decided, switch-is}
+use Rattle.pack.specs.After.{after, after-is}
+use Rattle.shown.specs.Decided.{decided, switch-is}
 use Rattle.demands.specs.BledWords.{bledWords, alike-drop, alike-among, alike-last, some, ten, words-alike}
 
 -- ---- DEMAND 1. "Any page, sample, command or log line gets an answer. Each refusal in document 01 is given exactly when its row

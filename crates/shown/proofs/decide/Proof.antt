@@ -1,8 +1,8 @@
--- `pack::decide` meets its contract. Assumes nothing.
-use Rattle.pack.specs.Shown.{decisionOf}
+-- `shown::decide` meets its contract. Assumes nothing.
+use Rattle.shown.specs.Shown.{decisionOf}
 use borrow.Author.Needs.{needs}
-use Rattle.pack.proofs.decide.Statement.{statement}
-use Rattle.pack.proofs.decide.Tie as tie
+use Rattle.shown.proofs.decide.Statement.{statement}
+use Rattle.shown.proofs.decide.Tie as tie
 
 raised-word-requires : tie.Need-raised-word-requires
 raised-word-requires c κs = search needs

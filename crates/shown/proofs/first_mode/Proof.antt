@@ -1,14 +1,14 @@
--- `pack::first_mode` meets its contract. The loop's invariant: the mode is that of the rest of the order. Assumes nothing.
+-- `shown::first_mode` meets its contract. The loop's invariant: the mode is that of the rest of the order. Assumes nothing.
 use Prim.Native.Nat.{_-_, _≤_}
 use mathlib.Core.Path.{_≡_, refl, sym, ap, _∙_}
 use lib.ListN.{drop}
 use Rattle.laws.specs.Bits.{hasBit}
 use Rattle.protections.specs.declared.Row.{Row}
-use Rattle.pack.specs.Shown.{modeNumber, modeOrder, firstMode, mode-found, mode-next}
+use Rattle.shown.specs.Shown.{modeNumber, modeOrder, firstMode, mode-found, mode-next}
 use borrow.Author.Needs.{needs}
 use native.Mathlib.Omega.{arith}
-use Rattle.pack.proofs.first_mode.Statement.{statement}
-use Rattle.pack.proofs.first_mode.Tie as tie
+use Rattle.shown.proofs.first_mode.Statement.{statement}
+use Rattle.shown.proofs.first_mode.Tie as tie
 
 abbrev Inv-loop : tie.InvT-loop
 Inv-loop raised other i₀ i = (i ≤ 7) × (firstMode (hasBit raised) modeOrder other ≡ firstMode (hasBit raised) (drop i modeOrder) other)

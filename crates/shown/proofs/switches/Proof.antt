@@ -1,8 +1,8 @@
--- `pack::switches` meets its contract. Assumes nothing.
-use Rattle.pack.specs.Shown.{switchesOf}
+-- `shown::switches` meets its contract. Assumes nothing.
+use Rattle.shown.specs.Shown.{switchesOf}
 use borrow.Author.Needs.{needs}
-use Rattle.pack.proofs.switches.Statement.{statement}
-use Rattle.pack.proofs.switches.Tie as tie
+use Rattle.shown.proofs.switches.Statement.{statement}
+use Rattle.shown.proofs.switches.Tie as tie
 
 switch-on-requires : tie.Need-switch-on-requires
 switch-on-requires c κs = search needs

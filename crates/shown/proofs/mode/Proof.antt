@@ -1,10 +1,10 @@
--- `pack::mode` meets its contract. Assumes nothing.
+-- `shown::mode` meets its contract. Assumes nothing.
 use mir.Syntax.{w16}
 use mir.Facts.{toZ-ofZ}
-use Rattle.pack.specs.Shown.{modeOf}
+use Rattle.shown.specs.Shown.{modeOf}
 use borrow.Author.Needs.{needs}
-use Rattle.pack.proofs.mode.Statement.{statement}
-use Rattle.pack.proofs.mode.Tie as tie
+use Rattle.shown.proofs.mode.Statement.{statement}
+use Rattle.shown.proofs.mode.Tie as tie
 
 is-charging-requires : tie.Need-is-charging-requires
 is-charging-requires c κs = search needs

@@ -1,7 +1,7 @@
--- `pack::switch_on` meets its contract. Assumes nothing.
+-- `shown::switch_on` meets its contract. Assumes nothing.
 use borrow.Author.Needs.{needs}
-use Rattle.pack.proofs.switch_on.Statement.{statement}
-use Rattle.pack.proofs.switch_on.Tie as tie
+use Rattle.shown.proofs.switch_on.Statement.{statement}
+use Rattle.shown.proofs.switch_on.Tie as tie
 
 cast-has-bit : tie.Need-cast-has-bit
 cast-has-bit c = search needs
