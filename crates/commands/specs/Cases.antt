@@ -10,7 +10,7 @@ use lib.ListN.{replicate}
 use Rattle.laws.specs.Bits.{hasBit, withBit, withBitIf}
 use Rattle.laws.specs.Each.{eachTo}
 use Rattle.units.specs.Signed.{wordOf}
-use Rattle.page.specs.Page.{within}
+use Rattle.ranges.specs.Ranges.{within}
 use Rattle.protections.specs.declared.Limits.{Limits}
 use Rattle.protections.specs.Table.{rowAt, table as rows}
 use Rattle.quantities.specs.Cells.{bestOf, extremesOf}

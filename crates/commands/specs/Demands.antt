@@ -11,7 +11,8 @@ use lib.Dec.{lit<}
 use Rattle.laws.specs.Bits.{hasBit, withBit, withBitIf}
 use Rattle.units.specs.Signed.{wordOf, word-signed}
 use Rattle.protections.specs.Table.{protections}
-use Rattle.page.specs.Page.{wordAt, judged}
+use Rattle.ranges.specs.Ranges.{wordAt}
+use Rattle.page.specs.Page.{judged}
 use Rattle.page.specs.Accepted.{accepted-ranges}
 use Rattle.page.specs.declared.Verdict.the-variants.{Accepted}
 use Rattle.raised.specs.Words.{raisedAfter, blocksAny-is, raisedWord-has}

@@ -25,7 +25,8 @@ use Rattle.samples.specs.Samples.{cellsFit, sampleRefusals, sampleVerdict, comm
 use Rattle.units.specs.Signed.{signedOf}
 use Rattle.laws.specs.Latest.{lastAll, among}
 use Rattle.crc.specs.CheckByte.{timesX, timesXs, withByte, remainder, checkByte}
-use Rattle.page.specs.Page.{wordAt, within, degreesFit, levelFits, levelOf, refusals, judged, answerOf}
+use Rattle.ranges.specs.Ranges.{wordAt, within, degreesFit, levelFits, levelOf}
+use Rattle.page.specs.Page.{refusals, judged, answerOf}
 use Rattle.page.specs.declared.Verdict.the-variants.{Accepted}
 use Rattle.page.specs.Worked.{workedPage, pageWith, put}
 use Rattle.quantities.specs.declared.Sample.{Sample}

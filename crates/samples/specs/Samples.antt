@@ -14,7 +14,7 @@ use lib.ListN.{getD, length}
 use lib.Seq.{ext-getD}
 use Rattle.units.specs.declared.MilliVolts.{MilliVolts}
 use Rattle.laws.specs.Each.{eachTo, each-length, each-below}
-use Rattle.page.specs.Page.{within}
+use Rattle.ranges.specs.Ranges.{within}
 use Rattle.page.specs.Refusals.{Rule, rule, Refusal, refusal, first}
 use Rattle.page.specs.declared.Verdict.{Verdict}
 use Rattle.page.specs.declared.Verdict.the-variants.{Accepted, Refused}
