@@ -8,7 +8,7 @@ use lib.ListN.{replicate}
 use Rattle.crc.specs.CheckByte.{checkByte, remainder, withByte, timesXs, timesX}
 use Rattle.units.specs.Signed.{wordOf}
 use Rattle.page.specs.Page.{countFrom}
-use Rattle.guard.specs.Cases.{minus, sampled}
+use Rattle.quantities.specs.Cases.{minus, sampled}
 use Rattle.commands.specs.Table.{table, rowOf}
 use Rattle.bus.specs.Replies.{notInTable, cellAbove, replyRefusals, repliedFor, frameOf, bytesOf, answerOf}
 

@@ -14,8 +14,8 @@ use borrow.Author.Tests.{eqb-true, eqb-false, ltb-true, ltb-false, leb-true}
 use Rattle.laws.specs.Tests.{by-test, clash, and-left, and-right}
 use Rattle.laws.specs.Each.{eachTo}
 use Rattle.units.specs.declared.MilliVolts.{MilliVolts}
-use Rattle.guard.specs.declared.Sample.{Sample}
-use Rattle.guard.specs.Cells.{noVolts, lookedAt, looked-most}
+use Rattle.quantities.specs.declared.Sample.{Sample}
+use Rattle.quantities.specs.Cells.{noVolts, lookedAt, looked-most}
 use Rattle.samples.specs.Samples.{cellFits, cellsFit, keptCell, trimmed, sampleRefusals, sampleVerdict, commandVerdict}
 use Rattle.settings.specs.Good.{Good}
 use Rattle.pack.specs.declared.Pack.{Pack}

@@ -10,14 +10,15 @@ use lib.ListN.{replicate}
 use Rattle.laws.specs.Bits.{hasBit, withBit, withBitIf}
 use Rattle.laws.specs.Each.{eachTo}
 use Rattle.units.specs.Signed.{wordOf}
-use Rattle.page.specs.Page.{within}
+use Rattle.ranges.specs.Ranges.{within}
 use Rattle.protections.specs.declared.Limits.{Limits}
 use Rattle.protections.specs.Table.{rowAt, table as rows}
-use Rattle.guard.specs.Cells.{bestOf, extremesOf}
-use Rattle.guard.specs.Cases.{minus, sampled, limited}
-use Rattle.guard.specs.Measure.{measure}
+use Rattle.quantities.specs.Cells.{bestOf, extremesOf}
+use Rattle.quantities.specs.Cases.{minus, sampled}
+use Rattle.guard.specs.Cases.{limited}
+use Rattle.quantities.specs.Measure.{measure}
 use Rattle.guard.specs.Steps.{raised}
-use Rattle.guard.specs.Words.{bitsOf, anyOf, raisedWord, someRaised, blocked}
+use Rattle.raised.specs.Words.{bitsOf, anyOf, raisedWord, someRaised, blocked}
 use Rattle.bleed.specs.Balance.{bledWord}
 use Rattle.wishes.specs.Steps.{cellOf, wishes}
 use Rattle.wishes.specs.Wants.{wants}
@@ -27,7 +28,7 @@ use Rattle.settings.specs.declared.Rules.{Rules}
 use Rattle.settings.specs.declared.Settings.{Settings}
 use Rattle.pack.specs.Events.{Event, offer, command, withEvent, pastOf}
 use Rattle.pack.specs.State.{wishAt, wishesOf, bledAfter}
-use Rattle.pack.specs.Shown.{modeOrder, firstMode, modeAfter}
+use Rattle.shown.specs.Shown.{modeOrder, firstMode, modeAfter}
 use Rattle.commands.specs.Table.{table, rowOf}
 use Rattle.commands.specs.Words.{sumTo, cellWord, heatRaised, statusWord, withSwitches, packWord, sentWord, wordAfter}
 

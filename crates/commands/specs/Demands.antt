@@ -11,21 +11,23 @@ use lib.Dec.{lit<}
 use Rattle.laws.specs.Bits.{hasBit, withBit, withBitIf}
 use Rattle.units.specs.Signed.{wordOf, word-signed}
 use Rattle.protections.specs.Table.{protections}
-use Rattle.page.specs.Page.{wordAt, judged}
+use Rattle.ranges.specs.Ranges.{wordAt}
+use Rattle.page.specs.Page.{judged}
 use Rattle.page.specs.Accepted.{accepted-ranges}
 use Rattle.page.specs.declared.Verdict.the-variants.{Accepted}
-use Rattle.guard.specs.Words.{raisedAfter, blocksAny-is, raisedWord-has}
+use Rattle.raised.specs.Words.{raisedAfter, blocksAny-is, raisedWord-has}
 use Rattle.settings.specs.declared.Settings.{Settings}
 use Rattle.settings.specs.Settings.{rulesOf, settingsOf}
 use Rattle.bleed.specs.Balance.{bled-few}
 use Rattle.pack.specs.declared.Pack.{Pack}
-use Rattle.guard.specs.declared.Sample.{Sample}
+use Rattle.quantities.specs.declared.Sample.{Sample}
 use Rattle.pack.specs.Events.{Event, Past, past}
 use Rattle.pack.specs.State.{wishesOf, bledAfter, balanceAfter, stateOf}
 use Rattle.pack.specs.Kept.{pageOf, pastAfter, stateAfter}
-use Rattle.pack.specs.Shown.{switchAfter, switchesWord}
+use Rattle.shown.specs.Shown.{switchAfter, switchesWord}
 use Rattle.pack.specs.Calls.{page-accepted}
-use Rattle.pack.specs.After.{after, after-is, switches-is, raised-is, mode-is}
+use Rattle.pack.specs.After.{after, after-is}
+use Rattle.shown.specs.Decided.{switches-is, raised-is, mode-is}
 use Rattle.commands.specs.declared.Sends.{Sends}
 use Rattle.commands.specs.declared.Sends.the-variants.{Nothing, Cell, Whole}
 use Rattle.commands.specs.declared.PackWord.{PackWord}

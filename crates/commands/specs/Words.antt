@@ -14,15 +14,15 @@ use lib.ListN.{getD}
 use Rattle.laws.specs.Bits.{hasBit, withBit, withBitIf}
 use Rattle.units.specs.declared.MilliVolts.{MilliVolts}
 use Rattle.units.specs.Signed.{wordOf}
-use Rattle.guard.specs.declared.Sample.{Sample}
-use Rattle.guard.specs.Cells.{noVolts, lookedAt}
-use Rattle.guard.specs.Words.{raisedAfter, raisedWord, raisedBits, blocked, blocksAny}
+use Rattle.quantities.specs.declared.Sample.{Sample}
+use Rattle.quantities.specs.Cells.{noVolts, lookedAt}
+use Rattle.raised.specs.Words.{raisedAfter, raisedWord, raisedBits, blocked, blocksAny}
 use Rattle.wishes.specs.Wants.{isCharging}
 use Rattle.settings.specs.declared.Settings.{Settings}
 use Rattle.pack.specs.declared.Pack.{Pack}
 use Rattle.pack.specs.Events.{Past}
 use Rattle.pack.specs.State.{latestOf, bledAfter}
-use Rattle.pack.specs.Shown.{switchAfter, switchesOf, modeAfter, modeOf}
+use Rattle.shown.specs.Shown.{switchAfter, switchesOf, modeAfter, modeOf}
 use Rattle.commands.specs.declared.Sends.{Sends}
 use Rattle.commands.specs.declared.Sends.the-variants.{Nothing, Cell, Whole}
 use Rattle.commands.specs.declared.PackWord.{PackWord}

@@ -2,7 +2,7 @@
 -- Assumes nothing.
 use mathlib.Core.Path.{_≡_}
 use lib.ListN.{length}
-use Rattle.guard.specs.declared.Sample.{Sample}
+use Rattle.quantities.specs.declared.Sample.{Sample}
 use Rattle.samples.specs.Samples.{Agree, agree-verdict, agree-trimmed}
 use Rattle.pack.specs.declared.Pack.{Pack}
 use Rattle.pack.specs.State.{offered}

@@ -8,7 +8,7 @@ use native.Mathlib.Omega.{arith}
 use lib.ListN.{drop}
 use borrow.Author.Tests.{lt-ltb}
 use Rattle.laws.specs.Latest.{lastAll, among}
-use Rattle.guard.specs.declared.Sample.{Sample}
+use Rattle.quantities.specs.declared.Sample.{Sample}
 use Rattle.settings.specs.declared.Settings.{Settings}
 use Rattle.settings.specs.Good.{Good}
 use Rattle.bleed.specs.Walk.{has}

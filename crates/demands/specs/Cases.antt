@@ -11,11 +11,11 @@ use Rattle.units.specs.declared.MilliVolts.{MilliVolts}
 use Rattle.laws.specs.Bits.{hasBit, withBit, withBitIf}
 use Rattle.laws.specs.Each.{eachTo}
 use Rattle.protections.specs.Table.{rowAt, table}
-use Rattle.guard.specs.Cells.{bestOf, extremesOf}
-use Rattle.guard.specs.Numbered.{listOf, listFrom}
-use Rattle.guard.specs.Measure.{measure}
+use Rattle.quantities.specs.Cells.{bestOf, extremesOf}
+use Rattle.laws.specs.Numbered.{listOf, listFrom}
+use Rattle.quantities.specs.Measure.{measure}
 use Rattle.guard.specs.Steps.{raised, protectionsOf, protectionOf, stepAllWith, stepWith, stepOne}
-use Rattle.guard.specs.Words.{bitsOf, anyOf, raisedBits, anyRaised, blocksOne, blocksAny, someRaised}
+use Rattle.raised.specs.Words.{bitsOf, anyOf, raisedBits, anyRaised, blocksOne, blocksAny, someRaised}
 use Rattle.wishes.specs.Wants.{wants}
 use Rattle.wishes.specs.Word.{inWord, wordTo}
 use Rattle.bleed.specs.History.{wantsCell}
@@ -26,10 +26,11 @@ use Rattle.samples.specs.Samples.{cellsFit, sampleRefusals, sampleVerdict, comm
 use Rattle.units.specs.Signed.{signedOf}
 use Rattle.laws.specs.Latest.{lastAll, among}
 use Rattle.crc.specs.CheckByte.{timesX, timesXs, withByte, remainder, checkByte}
-use Rattle.page.specs.Page.{wordAt, within, degreesFit, levelFits, levelOf, refusals, judged, answerOf}
+use Rattle.ranges.specs.Ranges.{wordAt, within, degreesFit, levelFits, levelOf}
+use Rattle.page.specs.Page.{refusals, judged, answerOf}
 use Rattle.page.specs.declared.Verdict.the-variants.{Accepted}
 use Rattle.page.specs.Worked.{workedPage, pageWith, put}
-use Rattle.guard.specs.declared.Sample.{Sample}
+use Rattle.quantities.specs.declared.Sample.{Sample}
 use Rattle.settings.specs.declared.Rules.{Rules}
 use Rattle.settings.specs.declared.Settings.{Settings}
 use Rattle.settings.specs.declared.Loaded.{Loaded}
@@ -37,12 +38,12 @@ use Rattle.settings.specs.Settings.{inDegrees, tripLevel, releaseLevel, limitsA
 use Rattle.settings.specs.Cases.{workedRules, worked, worked-loaded}
 use Rattle.pack.specs.declared.Pack.{Pack}
 use Rattle.pack.specs.declared.Answered.{Answered}
-use Rattle.pack.specs.declared.Decision.{Decision}
+use Rattle.shown.specs.declared.Decision.{Decision}
 use Rattle.pack.specs.Events.{Event, offer, command, accepts}
 use Rattle.pack.specs.State.{wishAt, wishesOf, bledAfter, freshPack, freshBalance, nextTick, nextBalance, wantWith, acceptedPack, offered, withCommand, commanded}
 use Rattle.pack.specs.Kept.{pageOf}
 use Rattle.demands.specs.BledWords.{bledWords}
-use Rattle.pack.specs.Shown.{modeOrder, firstMode, switchesOf, modeOf, decisionOf}
+use Rattle.shown.specs.Shown.{modeOrder, firstMode, switchesOf, modeOf, decisionOf}
 
 -- ---- samples and answers, written short
 

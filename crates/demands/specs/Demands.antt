@@ -17,9 +17,9 @@ use Rattle.page.specs.Page.{judged}
 use Rattle.page.specs.Refusals.{NoFault, Lowest, none-exactly, refuse-exactly}
 use Rattle.page.specs.Exactly.{refused-not, refused-one}
 use Rattle.page.specs.declared.Verdict.the-variants.{Accepted, Refused}
-use Rattle.guard.specs.declared.Sample.{Sample}
+use Rattle.quantities.specs.declared.Sample.{Sample}
 use Rattle.guard.specs.Steps.{raised, limitsAt}
-use Rattle.guard.specs.Words.{raisedWord-has}
+use Rattle.raised.specs.Words.{raisedWord-has}
 use Rattle.samples.specs.Samples.{sampleRefusals, sampleVerdict, commandRefusals, commandVerdict}
 use Rattle.settings.specs.declared.Settings.{Settings}
 use Rattle.settings.specs.Good.{Good, accepted-good}
@@ -30,13 +30,14 @@ use Rattle.bleed.specs.History.{wantsCell}
 use Rattle.bleed.specs.Demand.{fair-anywhere, never-over-R}
 use Rattle.bleed.specs.Balance.{bled-few, bled-apart}
 use Rattle.pack.specs.declared.Pack.{Pack}
-use Rattle.pack.specs.declared.Decision.{Decision}
+use Rattle.shown.specs.declared.Decision.{Decision}
 use Rattle.pack.specs.Events.{Event, command}
 use Rattle.pack.specs.State.{wishesOf, bledAfter, offered, commanded}
 use Rattle.pack.specs.Kept.{pageOf, pastAfter, stateAfter}
-use Rattle.pack.specs.Shown.{switchAfter, decisionAfter, switchOn, decisionOf}
+use Rattle.shown.specs.Shown.{switchAfter, decisionAfter, switchOn, decisionOf}
 use Rattle.pack.specs.Calls.{page-accepted}
-use Rattle.pack.specs.After.{after, after-is, decided, switch-is}
+use Rattle.pack.specs.After.{after, after-is}
+use Rattle.shown.specs.Decided.{decided, switch-is}
 use Rattle.demands.specs.BledWords.{bledWords, alike-drop, alike-among, alike-last, some, ten, words-alike}
 
 -- ---- DEMAND 1. "Any page, sample, command or log line gets an answer. Each refusal in document 01 is given exactly when its row

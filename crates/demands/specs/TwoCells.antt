@@ -16,11 +16,11 @@ use Rattle.laws.specs.Latest.{lastAll, among}
 use Rattle.units.specs.declared.MilliVolts.{MilliVolts}
 use Rattle.page.specs.declared.Verdict.{Verdict}
 use Rattle.page.specs.declared.Verdict.the-variants.{Accepted, Refused}
-use Rattle.guard.specs.declared.Sample.{Sample}
-use Rattle.guard.specs.declared.Extremes.{Extremes}
+use Rattle.quantities.specs.declared.Sample.{Sample}
+use Rattle.quantities.specs.declared.Extremes.{Extremes}
 use Rattle.samples.specs.Samples.{sampleVerdict, commandVerdict, trimmed, sample-exact}
 use Rattle.pack.specs.Events.{Event, offer, command, accepts, withEvent, pastOf}
-use Rattle.guard.specs.Cells.{noVolts, lowest, lowest-among, extremesOf, extremes-are}
+use Rattle.quantities.specs.Cells.{noVolts, lowest, lowest-among, extremesOf, extremes-are}
 use Rattle.settings.specs.declared.Settings.{Settings}
 use Rattle.settings.specs.Good.{Good, accepted-good}
 use Rattle.page.specs.Page.{judged}

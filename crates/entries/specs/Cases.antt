@@ -6,7 +6,7 @@ use mathlib.Core.List.{List, [], _∷_}
 use lib.IntN.{pos, negsuc}
 use lib.ListN.{length, replicate}
 use Rattle.units.specs.declared.MilliVolts.{MilliVolts}
-use Rattle.guard.specs.Cells.{noVolts}
+use Rattle.quantities.specs.Cells.{noVolts}
 use Rattle.text.specs.Finding.{lacks}
 use Rattle.text.specs.Fields.{fieldsOf}
 use Rattle.text.specs.Numbers.{numberTo, digitsTo, signedOf}

@@ -8,8 +8,8 @@ use lib.IntN.{ℤ, pos}
 use lib.ListN.{length, set, replicate}
 use Rattle.units.specs.declared.MilliVolts.{MilliVolts}
 use Rattle.units.specs.declared.DeciKelvin.{DeciKelvin}
-use Rattle.guard.specs.declared.Sample.{Sample}
-use Rattle.guard.specs.Cells.{noVolts}
+use Rattle.quantities.specs.declared.Sample.{Sample}
+use Rattle.quantities.specs.Cells.{noVolts}
 use Rattle.text.specs.declared.Number.{Number}
 use Rattle.text.specs.declared.Number.the-variants as number
 use Rattle.text.specs.declared.Signed.{Signed}

@@ -11,7 +11,7 @@ use lib.ListN.{length, drop, set, getD, replicate, drop-of-length-le}
 use lib.Seq.{drop-cons}
 use Rattle.laws.specs.Each.{eachTo}
 use Rattle.units.specs.declared.MilliVolts.{MilliVolts}
-use Rattle.guard.specs.Cells.{noVolts}
+use Rattle.quantities.specs.Cells.{noVolts}
 use Rattle.text.specs.declared.Number.the-variants.{Value, Malformed}
 use Rattle.text.specs.Numbers.{numberOf}
 use Rattle.entries.specs.declared.Entry.{Entry}

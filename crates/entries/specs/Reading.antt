@@ -14,7 +14,7 @@ use lib.ListN.{length, set, getD, replicate}
 use borrow.Author.Tests.{lt-ltb, le-ltb, ltb-true, ltb-false, eqb-true, leb-true, eq-eqb, ne-eqb}
 use Rattle.laws.specs.Tests.{by-test, clash}
 use Rattle.units.specs.declared.MilliVolts.{MilliVolts}
-use Rattle.guard.specs.Cells.{noVolts}
+use Rattle.quantities.specs.Cells.{noVolts}
 use Rattle.text.specs.declared.Number.{Number}
 use Rattle.text.specs.declared.Number.the-variants.{Value, Malformed}
 use Rattle.text.specs.declared.Signed.{Signed}

@@ -6,7 +6,7 @@ ghost use lib.ListN.{length, getD};
 ghost use Rattle.entries.specs.Entry.{malformed, offer, commandOf, firstOf, sampleOf, entryOf};
 ghost use Rattle.entries.specs.Left.{left};
 ghost use Rattle.entries.specs.InTurn.{cellsOf};
-use guard::Sample;
+use quantities::Sample;
 use text::FieldNumber;
 use text::Number;
 use text::Signed;

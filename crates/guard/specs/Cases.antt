@@ -1,41 +1,23 @@
--- Computed cases: document 01's starred run of samples, and cases that pin each quantity, direction and bit.
+-- Computed cases: document 01's starred run of samples, and cases that pin each direction.
 -- Assumes nothing.
 use mathlib.Core.Path.{_≡_, refl}
 use mathlib.Core.Bool.{Bool, true, false}
 use mathlib.Core.List.{List, [], _∷_}
-use Prim.Native.Nat.{ℕ, zero, suc}
-use lib.IntN.{ℤ, pos, negsuc}
-use Rattle.units.specs.declared.MilliVolts.{MilliVolts}
-use Rattle.laws.specs.Bits.{hasBit, withBit, withBitIf}
-use Rattle.laws.specs.Each.{eachTo}
+use Prim.Native.Nat.{ℕ}
+use lib.IntN.{ℤ, pos}
 use Rattle.protections.specs.declared.Limits.{Limits}
-use Rattle.protections.specs.Table.{rowAt, table, protections}
+use Rattle.protections.specs.Table.{rowAt, table}
+use Rattle.quantities.specs.declared.Sample.{Sample}
+use Rattle.quantities.specs.Cells.{bestOf, extremesOf}
+use Rattle.quantities.specs.Measure.{measure}
+use Rattle.quantities.specs.Cases.{minus, sampled}
 use Rattle.guard.specs.declared.Alarm.{Alarm}
 use Rattle.guard.specs.declared.Alarm.the-variants.{Clear}
-use Rattle.guard.specs.declared.Sample.{Sample}
-use Rattle.guard.specs.declared.Extremes.{Extremes}
 use Rattle.guard.specs.declared.Protection.{Protection}
-use Rattle.guard.specs.Cells.{bestOf, extremesOf}
-use Rattle.guard.specs.Measure.{measure}
 use Rattle.guard.specs.Runs.{isRaised}
-use Rattle.guard.specs.Numbered.{listFrom, listOf}
-use Rattle.guard.specs.Steps.{raised, protectionOf, protectionsOf, protectionsAfter, stepOne, stepWith, stepAllWith}
-use Rattle.guard.specs.Words.{bitsOf, anyOf, raisedBits, raisedWord, blocksOne, blocksAny, blocked}
+use Rattle.guard.specs.Steps.{raised, stepOne, stepWith}
 
--- ---- samples and limits, written short
-
--- The number below zero: `minus 5` is -5.
-abbrev pub minus : ℕ → ℤ
-minus zero = pos 0
-minus (suc k) = negsuc k
-
-abbrev pub cellsFrom : List ℕ → List MilliVolts
-cellsFrom [] = []
-cellsFrom (x ∷ l) = record { 0 = x } ∷ cellsFrom l
-
-abbrev pub sampled : ℕ → List ℕ → ℤ → ℕ → ℕ → Sample
-sampled count cells current t1 t2 =
-    record { count = count; cells = cellsFrom cells; current = current; t1 = record { 0 = t1 }; t2 = record { 0 = t2 } }
+-- ---- limits and samples, written short
 
 abbrev pub limited : ℤ → ℤ → ℕ → ℕ → ℕ → Limits
 limited trip release n m mask = record { trip = trip; release = release; n = n; m = m; mask = mask }
@@ -134,72 +116,3 @@ pub below-zero
     ≡ (false ∷ false ∷ false ∷ true ∷ true ∷ false ∷ true ∷ false ∷ [])
 unfolding raised rowAt table measure
 below-zero = refl
-
--- ---- each protection looks at its own quantity, and entries past the count are no cells
-
-abbrev mixed : Sample
-mixed = sampled 3 (4000 ∷ 4020 ∷ 3990 ∷ 5999 ∷ 1 ∷ 0 ∷ 0 ∷ 0 ∷ 0 ∷ 0 ∷ []) (minus 7) 2981 3002
-
-pub quantities
-    : listOf (λ p. measure (rowAt p .quantity) mixed) protections
-    ≡ (pos 4020 ∷ pos 3990 ∷ minus 7 ∷ minus 7 ∷ minus 7 ∷ pos 2981 ∷ pos 2981 ∷ pos 3002 ∷ [])
-unfolding listOf listFrom measure extremesOf bestOf rowAt table
-quantities = refl
-
--- A count over ten looks at ten entries; of no cell, both are 0.
-abbrev ten : List MilliVolts
-ten = cellsFrom (4000 ∷ 4020 ∷ 3990 ∷ 5999 ∷ 1 ∷ 4000 ∷ 4000 ∷ 4000 ∷ 4000 ∷ 4000 ∷ [])
-
-abbrev pair : ℕ → ℕ → Extremes
-pair h l = record { highest = record { 0 = h }; lowest = record { 0 = l } }
-
-pub counts : (extremesOf ten 0 ∷ extremesOf ten 1 ∷ extremesOf ten 3 ∷ extremesOf ten 4 ∷ extremesOf ten 10 ∷ extremesOf ten 200 ∷ [])
-    ≡ (pair 0 0 ∷ pair 4000 4000 ∷ pair 4020 3990 ∷ pair 5999 3990 ∷ pair 5999 1 ∷ pair 5999 1 ∷ [])
-unfolding extremesOf bestOf
-counts = refl
-
--- ---- the words
-
--- Over voltage blocks charge after two samples, the second thermistor discharge after one, over charge current only reports.
-abbrev page : List Limits
-page =
-    limited (pos 4250) (pos 4150) 2 2 1
-    ∷ limited (pos 0) (pos 1) 1 1 3
-    ∷ limited (pos 900) (pos 800) 1 1 0
-    ∷ limited (minus 32768) (pos 0) 1 1 3
-    ∷ limited (minus 32768) (pos 0) 1 1 3
-    ∷ limited (pos 3930) (pos 3000) 1 1 3
-    ∷ limited (pos 3930) (pos 3000) 1 1 3
-    ∷ limited (pos 3330) (pos 3000) 1 1 2
-    ∷ []
-
-abbrev seen : ℕ → ℤ → ℕ → Sample
-seen cell current t2 = sampled 2 (4000 ∷ cell ∷ 0 ∷ 0 ∷ 0 ∷ 0 ∷ 0 ∷ 0 ∷ 0 ∷ 0 ∷ []) current 2980 t2
-
--- The word, and whether charge and discharge are blocked, after a history (the latest sample first).
-pub record Said : Type 0 where
-  pub word : ℕ
-  pub charge : Bool
-  pub discharge : Bool
-
-abbrev said : ℕ → Bool → Bool → Said
-said w c d = record { word = w; charge = c; discharge = d }
-
-abbrev fromPage : List Sample → Said
-fromPage h = said (raisedWord page h) (blocked page h 0) (blocked page h 1)
-
-pub words-history
-    : (fromPage [] ∷ fromPage (seen 4260 (pos 0) 2980 ∷ []) ∷ fromPage (seen 4260 (pos 0) 2980 ∷ seen 4260 (pos 0) 2980 ∷ [])
-    ∷ fromPage (seen 4000 (pos 0) 3330 ∷ []) ∷ fromPage (seen 4000 (pos 900) 2980 ∷ [])
-    ∷ fromPage (seen 4260 (pos 900) 3330 ∷ seen 4250 (pos 0) 2980 ∷ []) ∷ [])
-    ≡ (said 0 false false ∷ said 0 false false ∷ said 1 true false ∷ said 128 false true ∷ said 4 false false ∷ said 133 true true ∷ [])
-unfolding raisedWord blocked bitsOf anyOf withBitIf withBit hasBit raised rowAt table measure extremesOf bestOf
-words-history = refl
-
--- The same by the steps of the whole array from the load.
-abbrev fromArray : List Protection → Said
-fromArray ps = said (raisedBits ps) (blocksAny 0 ps) (blocksAny 1 ps)
-
-pub words-steps : fromArray (protectionsAfter page (seen 4260 (pos 900) 3330 ∷ seen 4250 (pos 0) 2980 ∷ [])) ≡ said 133 true true
-unfolding raisedBits blocksAny blocksOne bitsOf anyOf withBitIf withBit hasBit stepAllWith stepWith stepOne eachTo protectionsOf protectionOf listOf listFrom rowAt table extremesOf bestOf
-words-steps = refl

@@ -14,8 +14,9 @@ use Rattle.pack.specs.declared.Answered.{Answered}
 use Rattle.pack.specs.Events.{Event, offer, command}
 use Rattle.pack.specs.State.{stateOf, offered, commanded}
 use Rattle.pack.specs.Kept.{pageOf, pastAfter, stateAfter, afterLoad}
-use Rattle.pack.specs.Shown.{decisionAfter, decisionOf}
-use Rattle.pack.specs.After.{after, after-is, decided}
+use Rattle.shown.specs.Shown.{decisionAfter, decisionOf}
+use Rattle.pack.specs.After.{after, after-is}
+use Rattle.shown.specs.Decided.{decided}
 use Rattle.entries.specs.declared.Kind.{Kind}
 use Rattle.entries.specs.declared.Kind.the-variants.{Offer, Command, Malformed}
 use Rattle.entries.specs.declared.Entry.{Entry}

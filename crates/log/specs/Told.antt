@@ -10,7 +10,7 @@ use Rattle.pack.specs.declared.Pack.{Pack}
 use Rattle.pack.specs.declared.Answered.{Answered}
 use Rattle.pack.specs.State.{offered, commanded, answered}
 use Rattle.pack.specs.Kept.{Kept}
-use Rattle.pack.specs.Shown.{decisionOf}
+use Rattle.shown.specs.Shown.{decisionOf}
 use Rattle.entries.specs.declared.Kind.{Kind}
 use Rattle.entries.specs.declared.Kind.the-variants.{Offer, Command, Malformed}
 use Rattle.entries.specs.declared.Entry.{Entry}

@@ -9,7 +9,7 @@ use Rattle.text.specs.Decimal.{decimal}
 use Rattle.text.specs.Spelling.{decimal-length}
 use Rattle.text.specs.Placing.{Put}
 use Rattle.text.specs.Putting.{put-place, put-length, put-then}
-use Rattle.pack.specs.declared.Decision.{Decision}
+use Rattle.shown.specs.declared.Decision.{Decision}
 use Rattle.log.specs.Texts.{lineOf, fieldText, decisionText, refusedText, pageText, headerText}
 
 -- The first three fields of a decision, and the last two.

@@ -13,9 +13,9 @@ use entries::Entry;
 use entries::Kind;
 use lines::NextLine;
 use pack::Answered;
-use pack::Decision;
 use pack::Pack;
 use page::Verdict;
+use shown::Decision;
 
 // What a line is answered with, before it is text: the five fields of the pack's decision, or the number of the refusal.
 pub enum Told {
@@ -65,7 +65,7 @@ fn turned_by(a: Answered) -> Turned
     let p = a.pack;
     match verdict {
         Verdict::Accepted => {
-            let d = pack::decide(p);
+            let d = shown::decide(p);
             Turned {
                 told: Told::Decided(d),
                 pack: p,

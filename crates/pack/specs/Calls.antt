@@ -10,7 +10,7 @@ use Rattle.laws.specs.Tests.{by-test, clash}
 use Rattle.page.specs.Page.{judged}
 use Rattle.page.specs.declared.Verdict.{Verdict}
 use Rattle.page.specs.declared.Verdict.the-variants.{Accepted, Refused}
-use Rattle.guard.specs.declared.Sample.{Sample}
+use Rattle.quantities.specs.declared.Sample.{Sample}
 use Rattle.samples.specs.Samples.{sampleVerdict, commandVerdict, trimmed, sample-none, command-most}
 use Rattle.settings.specs.declared.Settings.{Settings}
 use Rattle.settings.specs.declared.Loaded.{Loaded}

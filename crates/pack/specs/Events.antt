@@ -6,7 +6,7 @@ use mathlib.Core.List.{List, [], _∷_}
 use Prim.Native.Nat.{ℕ}
 use Rattle.page.specs.declared.Verdict.{Verdict}
 use Rattle.page.specs.declared.Verdict.the-variants.{Accepted, Refused}
-use Rattle.guard.specs.declared.Sample.{Sample}
+use Rattle.quantities.specs.declared.Sample.{Sample}
 use Rattle.samples.specs.Samples.{sampleVerdict, commandVerdict, trimmed}
 
 pub data Event : Type 0 where

@@ -2,6 +2,5 @@ pub mod After
 pub mod Calls
 pub mod Events
 pub mod Kept
-pub mod Shown
 pub mod State
 pub mod Steps

@@ -9,12 +9,12 @@ use lib.ListN.{length, replicate}
 use Rattle.units.specs.declared.MilliVolts.{MilliVolts}
 use Rattle.units.specs.declared.DeciKelvin.{DeciKelvin}
 use Rattle.units.specs.declared.CellNo.{CellNo}
-use Rattle.guard.specs.declared.Sample.{Sample}
+use Rattle.quantities.specs.declared.Sample.{Sample}
 use Rattle.guard.specs.declared.Protection.{Protection}
-use Rattle.guard.specs.Cells.{noVolts, extremesOf, lookedAt, lowest}
-use Rattle.guard.specs.declared.Extremes.{Extremes}
+use Rattle.quantities.specs.Cells.{noVolts, extremesOf, lookedAt, lowest}
+use Rattle.quantities.specs.declared.Extremes.{Extremes}
 use Rattle.guard.specs.Steps.{protectionsOf, stepAll, AllWithin}
-use Rattle.guard.specs.Words.{someRaised, anyRaised}
+use Rattle.raised.specs.Words.{someRaised, anyRaised}
 use Rattle.page.specs.declared.Verdict.{Verdict}
 use Rattle.page.specs.declared.Verdict.the-variants.{Accepted, Refused}
 use Rattle.settings.specs.declared.Rules.{Rules}

@@ -12,12 +12,12 @@ use borrow.Author.Tests.{ltb-true, ltb-false}
 use Rattle.laws.specs.Tests.{by-test}
 use Rattle.laws.specs.Bits.{withBitIf}
 use Rattle.units.specs.declared.CellNo.{CellNo}
-use Rattle.guard.specs.declared.Sample.{Sample}
+use Rattle.quantities.specs.declared.Sample.{Sample}
 use Rattle.guard.specs.declared.Protection.{Protection}
-use Rattle.guard.specs.Cells.{extremesOf}
+use Rattle.quantities.specs.Cells.{extremesOf}
 use Rattle.guard.specs.Steps as protected
 use Rattle.guard.specs.Steps.{AllGood, protectionsOf, stepAllWith, protections-step, protections-within}
-use Rattle.guard.specs.Words.{anyRaised, someRaised, anyRaised-is}
+use Rattle.raised.specs.Words.{anyRaised, someRaised, anyRaised-is}
 use Rattle.settings.specs.declared.Settings.{Settings}
 use Rattle.settings.specs.Good.{Good, GoodLimits}
 use Rattle.bleed.specs.History.{bleds, resting, startCell}

@@ -13,13 +13,15 @@ use Rattle.laws.specs.Tests.{by-test, and-left, and-right}
 use Rattle.crc.specs.CheckByte.{checkByte}
 use Rattle.protections.specs.Direction.{inOrder}
 use Rattle.protections.specs.Table.{rowAt}
-use Rattle.page.specs.Page.{wordAt, within, levelFits, levelOf, tripWord, judged}
-use Rattle.page.specs.Walk.{met, rangeMet, levelMet, orderMet, wordOfMet, orderedAt, lowestFrom, lowestFault, orElse, faultsOf, judged-is}
+use Rattle.ranges.specs.Ranges.{wordAt, within, levelFits, levelOf}
+use Rattle.page.specs.Page.{tripWord, judged}
+use Rattle.faults.specs.Met.{met, rangeMet, levelMet, orderMet, wordOfMet, orderedAt}
+use Rattle.page.specs.Walk.{lowestFrom, lowestFault, orElse, faultsOf, judged-is}
 use Rattle.page.specs.Exactly.{refused-not}
 use Rattle.page.specs.declared.Verdict.{Verdict}
 use Rattle.page.specs.declared.Verdict.the-variants.{Accepted, Refused}
-use Rattle.page.specs.declared.Fault.{Fault}
-use Rattle.page.specs.declared.Fault.the-variants.{Reserved, Range, Level, Order}
+use Rattle.faults.specs.declared.Fault.{Fault}
+use Rattle.faults.specs.declared.Fault.the-variants.{Reserved, Range, Level, Order}
 
 -- ---- out of the verdict
 

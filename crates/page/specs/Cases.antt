@@ -13,8 +13,10 @@ use Rattle.laws.specs.Tests.{and-left, and-right}
 use Rattle.units.specs.Signed.{signedOf}
 use Rattle.crc.specs.CheckByte.{timesX, timesXs, withByte, remainder, checkByte}
 use Rattle.protections.specs.Table.{rowAt, table}
-use Rattle.page.specs.Page.{wordAt, within, degreesFit, levelFits, levelOf, refusals, judged}
-use Rattle.page.specs.Walk.{reservedMet, rangeMet, wordOfMet, levelMet, orderedAt, orderMet, met, lowestFrom, lowestFault, faultsOf, judged-is}
+use Rattle.ranges.specs.Ranges.{wordAt, within, degreesFit, levelFits, levelOf}
+use Rattle.page.specs.Page.{refusals, judged}
+use Rattle.faults.specs.Met.{reservedMet, rangeMet, wordOfMet, levelMet, orderedAt, orderMet, met}
+use Rattle.page.specs.Walk.{lowestFrom, lowestFault, faultsOf, judged-is}
 use Rattle.page.specs.Swapped.{swapped}
 use Rattle.page.specs.Worked.{workedPage, put, minus, Change, changed, sealed, pageWith}
 use Rattle.page.specs.declared.Verdict.{Verdict}

@@ -1,18 +1,14 @@
--- The settings page of document 01: its words, its layout, and the refusal table 1 to 8.
+-- The settings page of document 01: its layout, and the refusal table 1 to 8.
 -- Assumes nothing.
-use mathlib.Core.Bool.{Bool, true, not, _&&_}
+use mathlib.Core.Bool.{Bool, not}
 use mathlib.Core.List.{List, [], _∷_, _++_, map}
 use Prim.Native.Nat.{ℕ, zero, suc, _+_, _-_, _*_, _/_, _%_}
-use lib.Dec.{leb, eqb}
+use lib.Dec.{eqb}
 use lib.ListN.{length, getD, take}
-use lib.IntN.{ℤ, pos, negsuc}
-use lib.Signed.{leZ}
-use Rattle.units.specs.Signed.{signedOf}
 use Rattle.crc.specs.CheckByte.{checkByte}
 use Rattle.protections.specs.Direction.{inOrder}
 use Rattle.protections.specs.Table.{rowAt}
-use Rattle.protections.specs.declared.Quantity.{Quantity}
-use Rattle.protections.specs.declared.Quantity.the-variants.{HighestCell, LowestCell, Current, Temperature1, Temperature2}
+use Rattle.ranges.specs.Ranges.{wordAt, within, levelFits, levelOf}
 use Rattle.page.specs.Refusals.{Rule, rule, Refusal, refusal, Answer, answer, first}
 use Rattle.page.specs.declared.Verdict.{Verdict}
 use Rattle.page.specs.declared.Verdict.the-variants.{Accepted, Refused}
@@ -23,10 +19,6 @@ answerOf Accepted = answer 0 0
 answerOf (Refused number word) = answer number word
 
 -- ---- words
-
--- "64 words, low byte first": word i of the bytes b. A byte that isn't there reads as 0.
-unfoldable pub wordAt : List ℕ → ℕ → ℕ
-wordAt b i = getD b (2 * i) 0 + 256 * getD b (2 * i + 1) 0
 
 -- A word with its two bytes exchanged.
 abbrev pub swappedWord : ℕ → ℕ
@@ -56,10 +48,6 @@ layout = record { bytes = 128; mark = 0x17A4; reserved = fromTo 9 15 ++ fromTo 5
 
 -- ---- what a word has to meet
 
--- A value of low..high.
-unfoldable pub within : ℕ → ℕ → ℕ → Bool
-within low high x = leb low x && leb x high
-
 -- A word that has a range of its own, with the least and the greatest value it may have.
 pub record Range : Type 0 where
   pub word : ℕ
@@ -81,26 +69,6 @@ ranges =
     ∷ range 7 0 6000  -- charging voltage per cell
     ∷ range 8 0 32767  -- charging current
     ∷ []
-
--- -40..120 degrees: `negsuc 39` is -40.
-unfoldable pub degreesFit : ℤ → Bool
-degreesFit c = leZ (negsuc 39) c && leZ c (pos 120)
-
--- "Trip and release are 0..6000 for cells, any signed 16-bit value for current, -40..120 (signed) for temperature."
-unfoldable pub levelFits : Quantity → ℕ → Bool
-levelFits HighestCell x = within 0 6000 x
-levelFits LowestCell x = within 0 6000 x
-levelFits Current x = true
-levelFits Temperature1 x = degreesFit (signedOf x)
-levelFits Temperature2 x = degreesFit (signedOf x)
-
--- The number that a level stands for on the page, in mV, mA or degrees: signed for currents and temperatures.
-unfoldable pub levelOf : Quantity → ℕ → ℤ
-levelOf HighestCell x = pos x
-levelOf LowestCell x = pos x
-levelOf Current x = signedOf x
-levelOf Temperature1 x = signedOf x
-levelOf Temperature2 x = signedOf x
 
 -- Protection p has words 16 + 5p to 20 + 5p: trip, release, N, M, switch mask.
 abbrev pub tripWord : ℕ → ℕ

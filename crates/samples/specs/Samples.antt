@@ -14,12 +14,12 @@ use lib.ListN.{getD, length}
 use lib.Seq.{ext-getD}
 use Rattle.units.specs.declared.MilliVolts.{MilliVolts}
 use Rattle.laws.specs.Each.{eachTo, each-length, each-below}
-use Rattle.page.specs.Page.{within}
+use Rattle.ranges.specs.Ranges.{within}
 use Rattle.page.specs.Refusals.{Rule, rule, Refusal, refusal, first}
 use Rattle.page.specs.declared.Verdict.{Verdict}
 use Rattle.page.specs.declared.Verdict.the-variants.{Accepted, Refused}
-use Rattle.guard.specs.Cells.{noVolts, lookedAt}
-use Rattle.guard.specs.declared.Sample.{Sample}
+use Rattle.quantities.specs.Cells.{noVolts, lookedAt}
+use Rattle.quantities.specs.declared.Sample.{Sample}
 
 -- A rule of a whole sample or command names word 0.
 abbrev whole : Bool → List Rule

@@ -1,12 +1,12 @@
 // Offered samples and switch commands: document 01's refusals 9, 10, 11 and 16, and what is kept of an accepted sample.
 ghost use mathlib.Core.Path.{_≡_};
 ghost use mathlib.Core.Bool.{_&&_};
-ghost use Rattle.guard.specs.Cells.{lookedAt};
+ghost use Rattle.quantities.specs.Cells.{lookedAt};
 ghost use Rattle.page.specs.declared.Verdict.{Verdict};
 ghost use Rattle.samples.specs.Samples.{cellFits, cellsFit, temperatureFits, temperaturesVerdict, sampleVerdict, commandVerdict, keptCell, trimmed};
-use guard::Sample;
-use guard::looked_at;
 use page::Verdict;
+use quantities::Sample;
+use quantities::looked_at;
 use units::DeciKelvin;
 use units::MilliVolts;
 

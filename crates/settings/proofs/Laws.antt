@@ -12,7 +12,7 @@ use mir.Syntax.{w32}
 use mir.Facts.{toZ-ofZ}
 use Rattle.laws.specs.Tests.{by-test}
 use Rattle.units.specs.Signed.{signedOf}
-use Rattle.page.specs.Page.{levelOf}
+use Rattle.ranges.specs.Ranges.{levelOf}
 use Rattle.protections.specs.declared.Quantity.{Quantity}
 use Rattle.protections.specs.declared.Quantity.the-variants.{HighestCell, LowestCell, Current, Temperature1, Temperature2}
 

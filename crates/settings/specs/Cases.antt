@@ -10,7 +10,8 @@ use Rattle.protections.specs.Table.{rowAt, table}
 use Rattle.protections.specs.declared.Limits.{Limits}
 use Rattle.protections.specs.declared.Direction.the-variants.{Above, Below}
 use Rattle.protections.specs.declared.Quantity.the-variants.{HighestCell, LowestCell, Current, Temperature1, Temperature2}
-use Rattle.page.specs.Page.{wordAt, within, degreesFit, levelFits, levelOf, refusals, judged}
+use Rattle.ranges.specs.Ranges.{wordAt, within, degreesFit, levelFits, levelOf}
+use Rattle.page.specs.Page.{refusals, judged}
 use Rattle.page.specs.Worked.{workedPage, minus}
 use Rattle.page.specs.declared.Verdict.the-variants.{Accepted, Refused}
 use Rattle.settings.specs.declared.Rules.{Rules}

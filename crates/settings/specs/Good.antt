@@ -19,7 +19,8 @@ use Rattle.protections.specs.declared.Direction.{Direction}
 use Rattle.protections.specs.declared.Direction.the-variants.{Above, Below}
 use Rattle.protections.specs.declared.Quantity.{Quantity}
 use Rattle.protections.specs.declared.Quantity.the-variants.{HighestCell, LowestCell, Current, Temperature1, Temperature2}
-use Rattle.page.specs.Page.{wordAt, degreesFit, levelFits, levelOf, tripWord, judged}
+use Rattle.ranges.specs.Ranges.{wordAt, degreesFit, levelFits, levelOf}
+use Rattle.page.specs.Page.{tripWord, judged}
 use Rattle.page.specs.Accepted.{InRange, Limited, accepted-ranges, accepted-limits}
 use Rattle.page.specs.declared.Verdict.{Verdict}
 use Rattle.page.specs.declared.Verdict.the-variants.{Accepted, Refused}

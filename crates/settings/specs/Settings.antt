@@ -11,7 +11,8 @@ use Rattle.protections.specs.declared.Limits.{Limits}
 use Rattle.protections.specs.declared.Direction.{Direction}
 use Rattle.protections.specs.declared.Quantity.{Quantity}
 use Rattle.protections.specs.declared.Quantity.the-variants.{HighestCell, LowestCell, Current, Temperature1, Temperature2}
-use Rattle.page.specs.Page.{wordAt, levelOf, tripWord, countFrom, judged}
+use Rattle.ranges.specs.Ranges.{wordAt, levelOf}
+use Rattle.page.specs.Page.{tripWord, countFrom, judged}
 use Rattle.page.specs.declared.Verdict.{Verdict}
 use Rattle.page.specs.declared.Verdict.the-variants.{Accepted, Refused}
 use Rattle.settings.specs.declared.Rules.{Rules}

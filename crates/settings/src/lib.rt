@@ -1,7 +1,8 @@
 // What an accepted settings page says, in the units of the samples.
 ghost use mathlib.Core.Path.{_≡_};
 ghost use Prim.Native.Nat.{_≤_, _<_};
-ghost use Rattle.page.specs.Page.{wordAt, judged};
+ghost use Rattle.ranges.specs.Ranges.{wordAt};
+ghost use Rattle.page.specs.Page.{judged};
 ghost use Rattle.page.specs.declared.Verdict.the-variants.{Accepted};
 ghost use Rattle.settings.specs.Settings.{inDegrees, tripLevel, releaseLevel, limitsAt, noLimits, limitsOf, rulesOf, settingsOf, noSettings, loadedOf};
 use page::Verdict;
@@ -55,7 +56,7 @@ fn in_degrees(quantity: Quantity) -> bool
 fn trip_level(quantity: Quantity, direction: Direction, x: u16) -> i32
     ensures { λ r. ⌜ r ≡ tripLevel quantity direction x ⌝ }
 {
-    let z = page::level(quantity, x);
+    let z = ranges::level(quantity, x);
     if in_degrees(quantity) {
         return 10 * z + 2730;
     }
@@ -66,7 +67,7 @@ fn trip_level(quantity: Quantity, direction: Direction, x: u16) -> i32
 fn release_level(quantity: Quantity, direction: Direction, x: u16) -> i32
     ensures { λ r. ⌜ r ≡ releaseLevel quantity direction x ⌝ }
 {
-    let z = page::level(quantity, x);
+    let z = ranges::level(quantity, x);
     if in_degrees(quantity) {
         return 10 * z + 2730;
     }
@@ -78,7 +79,7 @@ fn small(page: &[u8], i: u8) -> u8
     requires { ⌜ wordAt (now page) i ≤ 255 ⌝ }
     ensures { λ r. ⌜ r ≡ wordAt (now (page .entry)) i ⌝ }
 {
-    page::word(page, i) as u8
+    ranges::word(page, i) as u8
 }
 
 // What an accepted page says of protection p.
@@ -90,8 +91,8 @@ fn limits_at(page: &[u8], p: u8) -> Limits
     let quantity = row.quantity;
     let direction = row.direction;
     let at = 16 + 5 * p;
-    let trip = trip_level(quantity, direction, page::word(page, at));
-    let release = release_level(quantity, direction, page::word(page, at + 1));
+    let trip = trip_level(quantity, direction, ranges::word(page, at));
+    let release = release_level(quantity, direction, ranges::word(page, at + 1));
     let n = small(page, at + 2);
     let m = small(page, at + 3);
     let mask = small(page, at + 4);
@@ -139,11 +140,11 @@ fn rules_of(page: &[u8]) -> Rules
     let n = small(page, 1);
     let k = small(page, 2);
     let r = small(page, 3);
-    let floor = MilliVolts(page::word(page, 4));
-    let difference = MilliVolts(page::word(page, 5));
-    let detection = signed_of(page::word(page, 6));
-    let voltage = MilliVolts(page::word(page, 7));
-    let current = signed_of(page::word(page, 8));
+    let floor = MilliVolts(ranges::word(page, 4));
+    let difference = MilliVolts(ranges::word(page, 5));
+    let detection = signed_of(ranges::word(page, 6));
+    let voltage = MilliVolts(ranges::word(page, 7));
+    let current = signed_of(ranges::word(page, 8));
     Rules {
         n: n,
         k: k,

@@ -16,12 +16,13 @@ use Rattle.text.specs.Finding as text-finding
 use Rattle.text.specs.Numbers as text-numbers
 use Rattle.lines.specs.Lines as lines-lines
 use Rattle.lines.specs.Output as lines-output
+use Rattle.ranges.specs.Ranges as ranges-ranges
 use Rattle.page.specs.Page as page-page
 use Rattle.settings.specs.Settings as settings-settings
-use Rattle.guard.specs.Cells as guard-cells
-use Rattle.guard.specs.Numbered as guard-numbered
+use Rattle.quantities.specs.Cells as quantities-cells
+use Rattle.laws.specs.Numbered as laws-numbered
 use Rattle.guard.specs.Steps as guard-steps
-use Rattle.guard.specs.Words as guard-words
+use Rattle.raised.specs.Words as raised-words
 use Rattle.wishes.specs.Steps as wishes-steps
 use Rattle.wishes.specs.Wants as wishes-wants
 use Rattle.wishes.specs.Word as wishes-word
@@ -29,7 +30,7 @@ use Rattle.bleed.specs.Steps as bleed-steps
 use Rattle.bleed.specs.Word as bleed-word
 use Rattle.samples.specs.Samples as samples-samples
 use Rattle.pack.specs.Kept as pack-kept
-use Rattle.pack.specs.Shown as pack-shown
+use Rattle.shown.specs.Shown as shown-shown
 use Rattle.pack.specs.State as pack-state
 use Rattle.entries.specs.Entry as entries-entry
 use Rattle.log.specs.Told as log-told
@@ -53,5 +54,5 @@ abbrev pub pageLine : List ℕ
 pageLine = 112 ∷ 97 ∷ 103 ∷ 101 ∷ 9 ∷ 49 ∷ 9 ∷ 48 ∷ 10 ∷ []
 
 pub example : replayed page log ∷ replayed [] log ∷ [] ≡ written ∷ pageLine ∷ []
-unfolding laws-bits.hasBit laws-bits.withBitIf laws-each.eachTo units-signed.signedOf protections-table.rowAt crc-checkbyte.timesX crc-checkbyte.timesXs crc-checkbyte.withByte crc-checkbyte.remainder crc-checkbyte.checkByte text-decimal.decimal text-fields.fieldsOf text-finding.lacks text-numbers.digitsTo text-numbers.numberTo text-numbers.signedOf lines-lines.linesOf lines-output.answers lines-output.output page-page.wordAt page-page.within page-page.degreesFit page-page.levelFits page-page.levelOf page-page.refusals page-page.judged settings-settings.inDegrees settings-settings.tripLevel settings-settings.releaseLevel settings-settings.limitsAt settings-settings.limitsOf settings-settings.rulesOf settings-settings.settingsOf settings-settings.noSettings settings-settings.loadedOf guard-cells.bestOf guard-cells.widen guard-cells.extremesOf guard-numbered.listFrom guard-numbered.listOf guard-steps.raised guard-steps.protectionOf guard-steps.protectionsOf guard-steps.stepOne guard-steps.stepWith guard-steps.stepAllWith guard-steps.clear guard-steps.clearAt guard-words.bitsOf guard-words.anyOf guard-words.raisedBits guard-words.anyRaised guard-words.blocksOne guard-words.blocksAny wishes-steps.tenAtMost wishes-steps.cellOf wishes-steps.runOf wishes-steps.wishes wishes-steps.wantingWord wishes-steps.rested wishes-steps.restingWord bleed-steps.nextCell bleed-steps.nextRun bleed-steps.nextRuns bleed-steps.chosenWord bleed-steps.besideTaken bleed-steps.mayTake bleed-steps.takeOne bleed-steps.takeFrom wishes-wants.wants wishes-word.inWord bleed-word.withCellIf wishes-word.wordTo samples-samples.cellsFit samples-samples.sampleRefusals samples-samples.sampleVerdict samples-samples.commandRefusals samples-samples.commandVerdict samples-samples.keptCell samples-samples.trimmed pack-kept.afterLoad pack-shown.modeOrder pack-shown.firstMode pack-shown.switchesOf pack-shown.modeOf pack-shown.decisionOf pack-state.nextTick pack-state.freshBalance pack-state.nextBalance pack-state.wantWith pack-state.acceptedPack pack-state.freshPack pack-state.offered pack-state.withCommand pack-state.commanded entries-entry.commandOf entries-entry.cellsFrom entries-entry.secondOf entries-entry.firstOf entries-entry.sampleOf entries-entry.fieldsSay entries-entry.entryOf log-told.turnedBy log-told.turnOf log-texts.lineOf log-texts.headerText log-texts.pageText log-texts.decisionText log-texts.refusedText log-replay.replayed
+unfolding laws-bits.hasBit laws-bits.withBitIf laws-each.eachTo units-signed.signedOf protections-table.rowAt crc-checkbyte.timesX crc-checkbyte.timesXs crc-checkbyte.withByte crc-checkbyte.remainder crc-checkbyte.checkByte text-decimal.decimal text-fields.fieldsOf text-finding.lacks text-numbers.digitsTo text-numbers.numberTo text-numbers.signedOf lines-lines.linesOf lines-output.answers lines-output.output ranges-ranges.wordAt ranges-ranges.within ranges-ranges.degreesFit ranges-ranges.levelFits ranges-ranges.levelOf page-page.refusals page-page.judged settings-settings.inDegrees settings-settings.tripLevel settings-settings.releaseLevel settings-settings.limitsAt settings-settings.limitsOf settings-settings.rulesOf settings-settings.settingsOf settings-settings.noSettings settings-settings.loadedOf quantities-cells.bestOf quantities-cells.widen quantities-cells.extremesOf laws-numbered.listFrom laws-numbered.listOf guard-steps.raised guard-steps.protectionOf guard-steps.protectionsOf guard-steps.stepOne guard-steps.stepWith guard-steps.stepAllWith guard-steps.clear guard-steps.clearAt raised-words.bitsOf raised-words.anyOf raised-words.raisedBits raised-words.anyRaised raised-words.blocksOne raised-words.blocksAny wishes-steps.tenAtMost wishes-steps.cellOf wishes-steps.runOf wishes-steps.wishes wishes-steps.wantingWord wishes-steps.rested wishes-steps.restingWord bleed-steps.nextCell bleed-steps.nextRun bleed-steps.nextRuns bleed-steps.chosenWord bleed-steps.besideTaken bleed-steps.mayTake bleed-steps.takeOne bleed-steps.takeFrom wishes-wants.wants wishes-word.inWord bleed-word.withCellIf wishes-word.wordTo samples-samples.cellsFit samples-samples.sampleRefusals samples-samples.sampleVerdict samples-samples.commandRefusals samples-samples.commandVerdict samples-samples.keptCell samples-samples.trimmed pack-kept.afterLoad shown-shown.modeOrder shown-shown.firstMode shown-shown.switchesOf shown-shown.modeOf shown-shown.decisionOf pack-state.nextTick pack-state.freshBalance pack-state.nextBalance pack-state.wantWith pack-state.acceptedPack pack-state.freshPack pack-state.offered pack-state.withCommand pack-state.commanded entries-entry.commandOf entries-entry.cellsFrom entries-entry.secondOf entries-entry.firstOf entries-entry.sampleOf entries-entry.fieldsSay entries-entry.entryOf log-told.turnedBy log-told.turnOf log-texts.lineOf log-texts.headerText log-texts.pageText log-texts.decisionText log-texts.refusedText log-replay.replayed
 example = refl

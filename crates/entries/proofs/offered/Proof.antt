@@ -8,7 +8,7 @@ use Prim.Native.Nat.{_≤_, _-_}
 use lib.ListN.{getD, replicate}
 use Rattle.laws.specs.Each.{eachTo, each-next}
 use Rattle.units.specs.declared.MilliVolts.{MilliVolts}
-use Rattle.guard.specs.Cells.{noVolts}
+use Rattle.quantities.specs.Cells.{noVolts}
 use Rattle.entries.specs.Entry.{offer}
 use Rattle.entries.specs.InTurn.{cellsTo, ten-cells}
 use borrow.Author.Needs.{needs}

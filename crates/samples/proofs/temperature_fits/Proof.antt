@@ -1,6 +1,6 @@
 -- `samples::temperature_fits` meets its contract. Assumes nothing.
 use borrow.Author.Tests.{le-leb, lt-leb}
-use Rattle.page.specs.Page.{within}
+use Rattle.ranges.specs.Ranges.{within}
 use Rattle.samples.proofs.temperature_fits.Statement.{statement}
 use Rattle.samples.proofs.temperature_fits.Tie as tie
 

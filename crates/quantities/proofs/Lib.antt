@@ -1,0 +1,2 @@
+mod Signs
+mod Unique

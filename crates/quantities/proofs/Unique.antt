@@ -1,0 +1,19 @@
+-- Two results that one contract allows are equal, for every public function. The contract is the one that Rattle reads out of the source (`Reads.Post`).
+-- Assumes nothing.
+use mathlib.Core.Path.{sym, _∙_}
+use Rattle.laws.specs.Unique.{Unique}
+use Rattle.quantities.proofs.looked_at.Reads as looked-at
+use Rattle.quantities.proofs.looked_at.Kinds as looked-at-kinds
+use Rattle.quantities.proofs.extremes_of.Reads as extremes-of
+use Rattle.quantities.proofs.extremes_of.Kinds as extremes-of-kinds
+use Rattle.quantities.proofs.measured.Reads as measured
+use Rattle.quantities.proofs.measured.Kinds as measured-kinds
+
+looked-at-one : Unique 0 looked-at-kinds.ps looked-at-kinds.r looked-at.Post
+looked-at-one κs a x y s t p q = p ∙ sym q
+
+extremes-of-one : Unique 0 extremes-of-kinds.ps extremes-of-kinds.r extremes-of.Post
+extremes-of-one κs a x y s t p q = p ∙ sym q
+
+measured-one : Unique 0 measured-kinds.ps measured-kinds.r measured.Post
+measured-one κs a x y s t p q = p ∙ sym q
