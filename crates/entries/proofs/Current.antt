@@ -9,9 +9,9 @@ use borrow.Author.Tests.{leb-true}
 use mir.Val.{toZ, ofZ, SFits}
 use mir.Syntax.{w16}
 use mir.Facts.{toZ-ofZ}
-use Rattle.text.specs.declared.Signed.the-variants as signed
-use Rattle.text.specs.Numbers.{signedOf}
-use Rattle.text.specs.Canonical.{InRange, signed-text}
+use Rattle.numbers.specs.declared.Signed.the-variants as signed
+use Rattle.numbers.specs.Numbers.{signedOf}
+use Rattle.numbers.specs.Canonical.{InRange, signed-text}
 
 in-range : (z : ℤ) → InRange z → SFits w16 z
 in-range (pos v) r = record { sfits = let k = leb-true v 32767 (r .1) in omega arith }

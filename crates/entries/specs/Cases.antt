@@ -9,7 +9,7 @@ use Rattle.units.specs.declared.MilliVolts.{MilliVolts}
 use Rattle.quantities.specs.Cells.{noVolts}
 use Rattle.text.specs.Finding.{lacks}
 use Rattle.text.specs.Fields.{fieldsOf}
-use Rattle.text.specs.Numbers.{numberTo, digitsTo, signedOf}
+use Rattle.numbers.specs.Numbers.{numberTo, digitsTo, signedOf}
 use Rattle.entries.specs.Entry.{malformed, command, offer, commandOf, cellsFrom, secondOf, firstOf, sampleOf, fieldsSay, entryOf}
 
 abbrev mv : ℕ → MilliVolts

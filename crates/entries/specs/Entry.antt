@@ -10,13 +10,13 @@ use Rattle.units.specs.declared.MilliVolts.{MilliVolts}
 use Rattle.units.specs.declared.DeciKelvin.{DeciKelvin}
 use Rattle.quantities.specs.declared.Sample.{Sample}
 use Rattle.quantities.specs.Cells.{noVolts}
-use Rattle.text.specs.declared.Number.{Number}
-use Rattle.text.specs.declared.Number.the-variants as number
-use Rattle.text.specs.declared.Signed.{Signed}
-use Rattle.text.specs.declared.Signed.the-variants as signed
+use Rattle.numbers.specs.declared.Number.{Number}
+use Rattle.numbers.specs.declared.Number.the-variants as number
+use Rattle.numbers.specs.declared.Signed.{Signed}
+use Rattle.numbers.specs.declared.Signed.the-variants as signed
 use Rattle.text.specs.Finding.{lacks}
 use Rattle.text.specs.Fields.{fieldsOf}
-use Rattle.text.specs.Numbers.{numberOf, signedOf}
+use Rattle.numbers.specs.Numbers.{numberOf, signedOf}
 use Rattle.entries.specs.declared.Kind.the-variants.{Offer, Command, Malformed}
 use Rattle.entries.specs.declared.Entry.{Entry}
 

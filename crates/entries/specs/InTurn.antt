@@ -12,8 +12,8 @@ use lib.Seq.{drop-cons}
 use Rattle.laws.specs.Each.{eachTo}
 use Rattle.units.specs.declared.MilliVolts.{MilliVolts}
 use Rattle.quantities.specs.Cells.{noVolts}
-use Rattle.text.specs.declared.Number.the-variants.{Value, Malformed}
-use Rattle.text.specs.Numbers.{numberOf}
+use Rattle.numbers.specs.declared.Number.the-variants.{Value, Malformed}
+use Rattle.numbers.specs.Numbers.{numberOf}
 use Rattle.entries.specs.declared.Entry.{Entry}
 use Rattle.entries.specs.Entry.{malformed, offer, cellsFrom, secondOf, firstOf}
 use Rattle.entries.specs.Reading.{cell-over, cell-none, cell-next}

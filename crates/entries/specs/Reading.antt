@@ -15,16 +15,16 @@ use borrow.Author.Tests.{lt-ltb, le-ltb, ltb-true, ltb-false, eqb-true, leb-true
 use Rattle.laws.specs.Tests.{by-test, clash}
 use Rattle.units.specs.declared.MilliVolts.{MilliVolts}
 use Rattle.quantities.specs.Cells.{noVolts}
-use Rattle.text.specs.declared.Number.{Number}
-use Rattle.text.specs.declared.Number.the-variants.{Value, Malformed}
-use Rattle.text.specs.declared.Signed.{Signed}
-use Rattle.text.specs.declared.Signed.the-variants as signed
+use Rattle.numbers.specs.declared.Number.{Number}
+use Rattle.numbers.specs.declared.Number.the-variants.{Value, Malformed}
+use Rattle.numbers.specs.declared.Signed.{Signed}
+use Rattle.numbers.specs.declared.Signed.the-variants as signed
 use Rattle.text.specs.Finding.{lacks}
 use Rattle.text.specs.Fields.{longer, fieldsOf, fieldAt}
 use Rattle.text.specs.Decimal.{decimal}
-use Rattle.text.specs.Numbers.{numberOf, signedOf, signedText}
+use Rattle.numbers.specs.Numbers.{numberOf, signedOf, signedText}
 use Rattle.text.specs.Spelling.{decimal-length, decimal-lacks}
-use Rattle.text.specs.Canonical.{InRange, number-text, signed-text}
+use Rattle.numbers.specs.Canonical.{InRange, number-text, signed-text}
 use Rattle.entries.specs.Entry.{malformed, command, ifNumber, ifSigned, commandOf, cellsFrom, secondOf, firstOf, sampleOf, isLetter, fieldsSay, entryOf}
 use Rattle.entries.specs.Left.{left, left-some, left-next}
 use Rattle.entries.specs.declared.Entry.{Entry}

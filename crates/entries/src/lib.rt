@@ -6,10 +6,10 @@ ghost use lib.ListN.{length, getD};
 ghost use Rattle.entries.specs.Entry.{malformed, offer, commandOf, firstOf, sampleOf, entryOf};
 ghost use Rattle.entries.specs.Left.{left};
 ghost use Rattle.entries.specs.InTurn.{cellsOf};
+use numbers::FieldNumber;
+use numbers::Number;
+use numbers::Signed;
 use quantities::Sample;
-use text::FieldNumber;
-use text::Number;
-use text::Signed;
 use units::DeciKelvin;
 use units::MilliVolts;
 
@@ -62,7 +62,7 @@ fn read_command(line: &[u8], at: usize) -> Entry
     if f.len() < n - at {
         return no_entry();
     }
-    let Number::Value(c) = text::read_number(f) else {
+    let Number::Value(c) = numbers::read_number(f) else {
         return no_entry();
     };
     let sample = blank();
@@ -108,7 +108,7 @@ fn read_numbers(line: &[u8], from: usize, current: i16) -> Entry
         if 12 <= count {
             return no_entry();
         }
-        let n = text::number_at(line, at);
+        let n = numbers::number_at(line, at);
         let FieldNumber::Value { number, end } = n else {
             return no_entry();
         };
@@ -131,7 +131,7 @@ fn read_sample(line: &[u8], at: usize) -> Entry
         return no_entry();
     }
     let f = text::field(line, at);
-    let Signed::Value(current) = text::read_signed(f) else {
+    let Signed::Value(current) = numbers::read_signed(f) else {
         return no_entry();
     };
     let next = at + f.len() + 1;

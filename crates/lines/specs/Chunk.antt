@@ -9,8 +9,8 @@ use lib.ListN.{length, take, drop, length-drop, take-append-drop}
 use lib.Seq.{drop-drop, length-take-le}
 use borrow.Author.Tests.{lt-ltb, le-ltb}
 use Rattle.text.specs.Finding.{before}
-use Rattle.text.specs.Placing.{Put}
-use Rattle.text.specs.Putting.{put-place, put-length, put-front, put-rest}
+use Rattle.writing.specs.Placing.{Put}
+use Rattle.writing.specs.Putting.{put-place, put-length, put-front, put-rest}
 use Rattle.lines.specs.Lines.{plain, endOf}
 use Rattle.lines.specs.Carrying.{keptOf, carriedOf, movedDown, moved-kept}
 use Rattle.lines.specs.Walking.{plain-take, whole, whole-none, whole-left, not-plain, Ended, ended-line, ended-rest, ended-splits, ended-plain}

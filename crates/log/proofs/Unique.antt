@@ -9,7 +9,7 @@ use borrow.Fn.Kinds.{Dens, resT, endedOf}
 use contract.Lifetimes.{Lfts}
 use denote.Triple.Clauses.{AtExit}
 use Rattle.laws.specs.Unique.{Unique}
-use Rattle.text.specs.Putting.{put-one}
+use Rattle.writing.specs.Putting.{put-one}
 use Rattle.lines.specs.Carrying.{carriedOf, movedDown}
 use Rattle.lines.specs.Chunk.{chunk-done, chunk-used, chunk-written, chunk-state, chunk-memory}
 use Rattle.page.specs.declared.Verdict.{Verdict}

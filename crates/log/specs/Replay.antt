@@ -12,8 +12,8 @@ use lib.Seq.{take-length}
 use borrow.Author.Tests.{le-ltb, lt-ltb, eqb-true, eqb-false, ne-eqb}
 use Rattle.laws.specs.Tests.{by-test}
 use Rattle.text.specs.Finding.{lacks}
-use Rattle.text.specs.Placing.{Put}
-use Rattle.text.specs.Putting.{put-made, put-place, put-full-place}
+use Rattle.writing.specs.Placing.{Put}
+use Rattle.writing.specs.Putting.{put-made, put-place, put-full-place}
 use Rattle.laws.specs.Tests.{by-order}
 use Rattle.lines.specs.Lines.{plain, linesOf}
 use Rattle.lines.specs.Carrying.{carriedOf, movedDown, carried-few}

@@ -7,8 +7,8 @@ use native.Mathlib.Omega.{arith}
 use lib.ListN.{length, length-append}
 use Rattle.text.specs.Decimal.{decimal}
 use Rattle.text.specs.Spelling.{decimal-length}
-use Rattle.text.specs.Placing.{Put}
-use Rattle.text.specs.Putting.{put-place, put-length, put-then}
+use Rattle.writing.specs.Placing.{Put}
+use Rattle.writing.specs.Putting.{put-place, put-length, put-then}
 use Rattle.shown.specs.declared.Decision.{Decision}
 use Rattle.log.specs.Texts.{lineOf, fieldText, decisionText, refusedText, pageText, headerText}
 

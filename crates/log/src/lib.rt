@@ -3,7 +3,7 @@ ghost use mathlib.Core.Path.{_≡_};
 ghost use mathlib.Core.List.{[], _∷_, _++_};
 ghost use Prim.Native.Nat.{_+_, _≤_};
 ghost use lib.ListN.{length};
-ghost use Rattle.text.specs.Placing.{Put};
+ghost use Rattle.writing.specs.Placing.{Put};
 ghost use Rattle.pack.specs.Kept.{Kept, afterLoad};
 ghost use Rattle.log.specs.Told.{answeredAs, turnedBy, turnOf};
 ghost use Rattle.log.specs.Texts.{fieldText, decisionText, refusedText, pageText, textOf};
@@ -120,8 +120,8 @@ fn put_field(out: &mut [u8], at: usize, v: u32, end: u8) -> usize
     requires { ⌜ at + length (fieldText v end) ≤ length (now out) ⌝ }
     ensures { λ r. ⌜ Put (now (out .entry)) at (fieldText v end) r (now (out .exit)) ⌝ }
 {
-    let e = text::put_decimal(out, at, v);
-    text::put_byte(out, e, end)
+    let e = writing::put_decimal(out, at, v);
+    writing::put_byte(out, e, end)
 }
 
 fn put_front(out: &mut [u8], at: usize, tick: u32, raised: u16, fets: u16) -> usize
@@ -157,7 +157,7 @@ fn put_refused(out: &mut [u8], at: usize, number: u8) -> usize
     ensures { λ r. ⌜ Put (now (out .entry)) at (refusedText number) r (now (out .exit)) ⌝ }
     ensures { λ _. ⌜ length (refusedText number) ≤ 35 ⌝ }
 {
-    let e = text::put_bytes(out, at, b"refused\t");
+    let e = writing::put_bytes(out, at, b"refused\t");
     put_field(out, e, number as u32, 10)
 }
 
@@ -240,7 +240,7 @@ pub fn last(buf: &mut [u8], held: usize) -> usize
     if held == 0 {
         return 0;
     }
-    text::put_byte(buf, held, 10)
+    writing::put_byte(buf, held, 10)
 }
 
 // ---- the start
@@ -249,7 +249,7 @@ fn put_page(out: &mut [u8], number: u8, word: u8) -> usize
     requires { ⌜ 35 ≤ length (now out) ⌝ }
     ensures { λ r. ⌜ Put (now (out .entry)) 0 (pageText number word) r (now (out .exit)) ⌝ }
 {
-    let e = text::put_bytes(out, 0, b"page\t");
+    let e = writing::put_bytes(out, 0, b"page\t");
     let f = put_field(out, e, number as u32, 9);
     put_field(out, f, word as u32, 10)
 }
@@ -261,7 +261,7 @@ fn put_opening(out: &mut [u8], verdict: Verdict) -> usize
         return 0;
     }
     match verdict {
-        Verdict::Accepted => text::put_bytes(out, 0, b"tick\traised\tfets\tbalance\tmode\n"),
+        Verdict::Accepted => writing::put_bytes(out, 0, b"tick\traised\tfets\tbalance\tmode\n"),
         Verdict::Refused { number, word } => put_page(out, number, word),
     }
 }

@@ -1,12 +1,6 @@
 pub mod Finding
 pub mod Fields
 pub mod Decimal
-pub mod Numbers
-pub mod Placing
 pub mod Splitting
 pub mod Spelling
-pub mod Canonical
-pub mod NumberAt
-pub mod Putting
-pub mod Back
 pub mod Cases

@@ -8,7 +8,7 @@ use Prim.Native.Nat.{_≤_, _+_, _-_}
 use lib.ListN.{length, length-set}
 use Rattle.text.specs.Fields.{fieldAt}
 use Rattle.text.specs.Splitting.{field-within}
-use Rattle.text.specs.NumberAt.{number-at-value, number-at-none}
+use Rattle.numbers.specs.NumberAt.{number-at-value, number-at-none}
 use Rattle.entries.specs.Entry.{firstOf}
 use Rattle.entries.specs.Left.{left, left-none, left-next}
 use Rattle.entries.specs.InTurn.{behind, cellsOf, NoCell, behind-over, behind-none, behind-next, behind-few, behind-all}

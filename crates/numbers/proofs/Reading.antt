@@ -1,0 +1,55 @@
+-- The steps of the readers, in the code's terms.
+use Prim.Native.Nat.{ℕ, suc, _+_, _*_, _-_, _<_, _≤_}
+use mathlib.Core.Path.{_≡_, refl}
+use mathlib.Core.List.{List, [], _∷_}
+use native.Mathlib.Numerals.{add-one}
+use native.Mathlib.Omega.{arith}
+use lib.ListN.{length, take, drop, getD, drop-of-length-le}
+use lib.Seq.{drop-cons, take-length}
+use borrow.Author.Tests.{lt-ltb, le-ltb, eq-eqb, ne-eqb}
+use Rattle.numbers.specs.declared.Number.the-variants.{Value, Malformed}
+use Rattle.numbers.specs.Numbers.{digitsTo, numberTo, aboveOf, belowOf, signedOf}
+use Rattle.numbers.specs.declared.Signed.the-variants as signed
+
+-- the digit at i, behind digits that stand for v
+module _ (most : ℕ) (f : List ℕ) (v i : ℕ) where
+  pub low : i < length f → getD f i 0 < 48 → digitsTo most v (drop i f) ≡ Malformed
+  unfolding digitsTo
+  low h l = rw (drop-cons f i 0 h, lt-ltb _ _ l)
+
+  pub high : i < length f → 48 ≤ getD f i 0 → 57 < getD f i 0 → digitsTo most v (drop i f) ≡ Malformed
+  unfolding digitsTo
+  high h l u = rw (drop-cons f i 0 h, le-ltb _ _ l, lt-ltb _ _ u)
+
+  pub large : i < length f → 48 ≤ getD f i 0 → getD f i 0 ≤ 57 → most < v * 10 + (getD f i 0 - 48)
+      → digitsTo most v (drop i f) ≡ Malformed
+  unfolding digitsTo
+  large h l u t = rw (drop-cons f i 0 h, le-ltb _ _ l, le-ltb _ _ u, lt-ltb _ _ t)
+
+  pub turn : i < length f → 48 ≤ getD f i 0 → getD f i 0 ≤ 57 → v * 10 + (getD f i 0 - 48) ≤ most
+      → digitsTo most (v * 10 + (getD f i 0 - 48)) (drop (i + 1) f) ≡ digitsTo most v (drop i f)
+  unfolding digitsTo
+  turn h l u t = rw (add-one, drop-cons f i 0 h, le-ltb _ _ l, le-ltb _ _ u, le-ltb _ _ t)
+
+  pub over : length f ≤ i → digitsTo most v (drop i f) ≡ Value v
+  unfolding digitsTo
+  over h = rw (drop-of-length-le f h)
+
+-- which case of signedOf holds, by the length and the first byte
+pub signed-empty : (f : List ℕ) → length f ≡ 0 → signedOf f ≡ signed.Malformed
+unfolding signedOf
+signed-empty [] e = refl
+signed-empty (b ∷ bs) e = absurd (omega arith)
+
+pub signed-minus : (f : List ℕ) → 0 < length f → getD f 0 0 ≡ 45
+    → signedOf f ≡ belowOf (numberTo 32768 (take (length f - 1) (drop 1 f)))
+unfolding signedOf
+signed-minus [] h e = absurd (omega arith)
+signed-minus (b ∷ bs) h e =
+    let n : suc (length bs) - 1 ≡ length bs = omega arith in
+    rw (eq-eqb b 45 e, n, take-length bs)
+
+pub signed-plain : (f : List ℕ) → 0 < length f → (getD f 0 0 ≡ 45 → ⊥) → signedOf f ≡ aboveOf (numberTo 32767 f)
+unfolding signedOf
+signed-plain [] h e = absurd (omega arith)
+signed-plain (b ∷ bs) h e = rw (ne-eqb b 45 e)

@@ -1,0 +1,4 @@
+pub mod Numbers
+pub mod Canonical
+pub mod NumberAt
+pub mod Cases

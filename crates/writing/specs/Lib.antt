@@ -1,0 +1,4 @@
+pub mod Placing
+pub mod Putting
+pub mod Back
+pub mod Cases
