@@ -27,6 +27,7 @@ use Rattle.bleed.specs.WalkLaws.{walk-same, order-only, only-cells}
 use Rattle.bleed.specs.History.{resting, startCell, bleds}
 use Rattle.bleed.specs.Demand.{run-short, never-more, never-neighbours}
 use Rattle.bleed.specs.Word.{wordOf, wordOf-bit, wordOf-few}
+use Rattle.bleed.specs.StepLaws.{runs-none}
 use Rattle.bleed.specs.Steps.{nextCell, nextRun, nextRuns, chosenWord, CellOf}
 
 -- ---- the definitions
@@ -179,6 +180,16 @@ module _ (n K R : ℕ) where
         → balanceStep n K R want (balanceOf n K R ws) ≡ balanceOf n K R (w ∷ ws)
     balance-step short want shows =
         rw (choose-is want shows, runs-are short, next-start-is n (length ws) some)
+
+-- No run is left where no cell was bled at the latest sample.
+pub runs-idle : (n K R : ℕ) → 1 ≤ n → n ≤ 10 → R < 255 → (ws : List (ℕ → Bool)) → bledWord n K R ws ≡ 0
+    → runsOf n K R ws ≡ replicate 10 0
+unfolding runsOf
+runs-idle n K R some ten short [] e = refl
+runs-idle n K R some ten short (w ∷ ws) e =
+    sym (runs-are n K R some ten w ws short)
+    ∙ ap (λ (b : ℕ). nextRuns b (runsOf n K R ws)) e
+    ∙ runs-none (runsOf n K R ws) (runs-length n K R ws)
 
 -- At the load: start cell 1, no runs, nothing bled.
 pub balance-load : (n K R : ℕ) → 1 ≤ n → balanceOf n K R [] ≡ balance (record { 0 = 1 }) (replicate 10 0) 0

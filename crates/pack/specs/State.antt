@@ -2,6 +2,7 @@
 -- Assumes nothing.
 use mathlib.Core.Bool.{Bool, true, false, cond}
 use mathlib.Core.List.{List, [], _∷_}
+use mathlib.Core.Path.{_≡_}
 use Prim.Native.Nat.{ℕ, zero, suc, _+_, _-_, _%_}
 use lib.Dec.{ltb}
 use lib.IntN.{ℤ, pos}
@@ -131,10 +132,12 @@ wantWith e r s ps =
 abbrev pub wantAt : Rules → Sample → List Protection → ℕ
 wantAt r s ps = wantWith (extremesOf (s .cells) (s .count)) r s ps
 
--- What the step takes as given: every run is below its N or M, and the start cell is a cell of the pack.
+-- What the step takes as given: every run is below its N or M, the start cell is a cell of the pack, and nobody rests where nobody was
+-- bled at the latest sample.
 pub record Ready (p : Pack) : Type 0 where
   pub runs : AllWithin (p .protections)
   pub start : CellOf (p .rules .n) (p .balance .start .0)
+  pub idle : p .balance .bled ≡ 0 → restingWord (p .rules .n) (p .rules .r) (p .balance .runs) ≡ 0
 
 -- The pack after an accepted sample, of which `s` is kept.
 unfoldable pub acceptedPack : Pack → Sample → Pack

@@ -24,8 +24,8 @@ use Rattle.bleed.specs.History.{bleds, resting, startCell}
 use Rattle.wishes.specs.Word.{wordTo}
 use Rattle.wishes.specs.Steps.{wantingWord, restingWord, rested, wishes, tenAtMost}
 use Rattle.bleed.specs.Steps.{chosenWord, nextCell, nextRuns, CellOf}
-use Rattle.wishes.specs.StepLaws.{ten-is}
-use Rattle.bleed.specs.Balance.{runsOf, bledWord, Shows, wanting-shows, start-cell, next-start-is, rested-is, choose-is, runs-are}
+use Rattle.wishes.specs.StepLaws.{ten-is, none-rest}
+use Rattle.bleed.specs.Balance.{runsOf, bledWord, Shows, wanting-shows, start-cell, next-start-is, rested-is, choose-is, runs-are, runs-idle}
 use Rattle.settings.specs.declared.Rules.{Rules}
 use Rattle.pack.specs.declared.Balance.{Balance}
 use Rattle.pack.specs.declared.Pack.{Pack}
@@ -106,6 +106,13 @@ module _ (page : Settings) (good : Good page) where
   rested-word ws =
       rw (ten-is (page .rules .n) ten) (word-same (page .rules .n) _ _ (λ k a b. rested-is (page .rules .n) (page .rules .k) (page .rules .r) ws k a (let t = ten in omega arith)))
 
+  -- Nobody rests where nobody was bled at the latest sample: R is 1 at least.
+  nobody-rests : (ws : List (ℕ → Bool)) → bledWord (page .rules .n) (page .rules .k) (page .rules .r) ws ≡ 0
+      → restingWord (page .rules .n) (page .rules .r) (runsOf (page .rules .n) (page .rules .k) (page .rules .r) ws) ≡ 0
+  nobody-rests ws e =
+      ap (restingWord (page .rules .n) (page .rules .r)) (runs-idle (page .rules .n) (page .rules .k) (page .rules .r) some ten short ws e)
+      ∙ none-rest (page .rules .n) (page .rules .r) (let h = good .r in omega arith)
+
   -- One step of bleeding.
   balance-next : (s : Sample) (h : List Sample) (want : ℕ) → Shows (page .rules .n) want (wishAt page s h)
       → nextBalance (page .rules) want (balanceAfter page h) ≡ balanceAfter page (s ∷ h)
@@ -142,9 +149,13 @@ module _ (page : Settings) (good : Good page) where
 
   -- So the step may be taken after any past.
   pub state-ready : (p : Past) → Ready (stateOf page p)
-  unfolding stateOf balanceAfter
+  unfolding stateOf balanceAfter bledAfter
   state-ready p =
-      record { runs = protections-within (page .limits) limits-good (p .history); start = start-cell (page .rules .n) (length (p .history)) some ten }
+      record {
+        runs = protections-within (page .limits) limits-good (p .history);
+        start = start-cell (page .rules .n) (length (p .history)) some ten;
+        idle = λ e. nobody-rests (wishesOf page (p .history)) e;
+      }
 
 -- ---- at the load
 

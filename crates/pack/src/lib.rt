@@ -1,5 +1,6 @@
 // The pack: loading a page, offering a sample, commanding the switches.
 ghost use mathlib.Core.Path.{_≡_};
+ghost use Rattle.wishes.specs.Steps.{restingWord};
 ghost use Rattle.bleed.specs.Steps.{CellOf};
 ghost use Rattle.pack.specs.State.{noSample, nextTick, wantWith, freshBalance, nextBalance, Ready, freshPack, acceptedPack, offered, commanded};
 ghost use Rattle.pack.specs.Kept.{Kept, afterLoad};
@@ -84,14 +85,26 @@ fn want_at(r: Rules, s: Sample, e: Extremes, ps: [Protection; PROTECTIONS]) -> u
     )
 }
 
+// Who rests at a sample: nobody, if nobody was bled at the one before it.
+fn resting_now(r: Rules, bled: u16, runs: [u8; 10]) -> u16
+    requires { ⌜ (bled ≡ 0 → restingWord (r .n) (r .r) runs ≡ 0) ⌝ }
+    ensures { λ w. ⌜ w ≡ restingWord (r .n) (r .r) runs ⌝ }
+{
+    if bled == 0 {
+        return 0;
+    }
+    resting(r.n, r.r, runs)
+}
+
 // Bleeding at one sample.
 fn next_balance(r: Rules, want: u16, b: Balance) -> Balance
     requires { ⌜ CellOf (r .n) (b .start .0) ⌝ }
+    requires { ⌜ (b .bled ≡ 0 → restingWord (r .n) (r .r) (b .runs) ≡ 0) ⌝ }
     ensures { λ q. ⌜ q ≡ nextBalance r want b ⌝ }
 {
     let runs = b.runs;
     let start = b.start;
-    let rested = resting(r.n, r.r, runs);
+    let rested = resting_now(r, b.bled, runs);
     let bled = choose(r.n, r.k, want, rested, start);
     let next = next_runs(bled, runs);
     let after = next_start(r.n, start);
