@@ -255,10 +255,3 @@ module _ (current : ℤ) (t1 t2 k : ℕ) (cells : List MilliVolts) (f : List ℕ
       → cellsFrom current t1 t2 k cells (f ∷ fs) ≡ cellsFrom current t1 t2 (k + 1) (set cells k (record { 0 = v })) fs
   unfolding cellsFrom
   cell-next v h e = rw (lt-ltb k 10 h, e, add-one)
-
--- A field f at a place of the line, where the current is to be read, is a number.
-module _ (line : List ℕ) (at : ℕ) (f : List ℕ) (e : f ≡ fieldAt line at) (h : at ≤ length line) where
-  pub sample-read : (current : ℤ) → signedOf f ≡ signed.Value current
-      → sampleOf (left line at) ≡ firstOf current (left line (at + length f + 1))
-  unfolding sampleOf
-  sample-read current n = rw (left-next line at f e h, n)

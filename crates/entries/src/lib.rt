@@ -3,12 +3,15 @@ ghost use mathlib.Core.Path.{_≡_};
 ghost use mathlib.Core.List.{[]};
 ghost use Prim.Native.Nat.{_+_, _≤_};
 ghost use lib.ListN.{length, getD};
-ghost use Rattle.entries.specs.Entry.{malformed, offer, commandOf, firstOf, sampleOf, entryOf};
+ghost use Rattle.entries.specs.Entry.{malformed, offer, commandOf, sampleOf, entryOf};
 ghost use Rattle.entries.specs.Left.{left};
-ghost use Rattle.entries.specs.InTurn.{cellsOf};
+ghost use Rattle.entries.specs.InTurn.{cellsOf, startOf};
 use numbers::FieldNumber;
 use numbers::Number;
 use numbers::Signed;
+use numbers::number_at;
+use numbers::past_minus;
+use numbers::with_sign;
 use quantities::Sample;
 use units::DeciKelvin;
 use units::MilliVolts;
@@ -73,14 +76,14 @@ fn read_command(line: &[u8], at: usize) -> Entry
     }
 }
 
-// An `S` line's sample, from its current and its other numbers: the two temperatures and `count` cells.
-fn offered(current: i16, numbers: [u16; 12], count: u8) -> Entry
-    ensures { λ r. ⌜ r ≡ offer current (getD numbers 0 0) (getD numbers 1 0) count (cellsOf numbers) ⌝ }
+// An `S` line's sample, from its current and its numbers: behind the current's the two temperatures and `count` cells.
+fn offered(current: i16, numbers: [u16; 13], count: u8) -> Entry
+    ensures { λ r. ⌜ r ≡ offer current (getD numbers 1 0) (getD numbers 2 0) count (cellsOf numbers) ⌝ }
 {
     let mut cells = [MilliVolts(0); 10];
     let mut i: usize = 0;
     while i < 10 {
-        cells[i] = MilliVolts(numbers[i + 2]);
+        cells[i] = MilliVolts(numbers[i + 3]);
         i += 1;
     }
     Entry {
@@ -90,25 +93,25 @@ fn offered(current: i16, numbers: [u16; 12], count: u8) -> Entry
             count: count,
             cells: cells,
             current: current,
-            t1: DeciKelvin(numbers[0]),
-            t2: DeciKelvin(numbers[1]),
+            t1: DeciKelvin(numbers[1]),
+            t2: DeciKelvin(numbers[2]),
         },
     }
 }
 
-// What follows the current of an `S` line: the fields from `from` on, twelve at most, are numbers alike.
-fn read_numbers(line: &[u8], from: usize, current: i16) -> Entry
+// The numbers of an `S` line, whose fields from `from` on are read alike, thirteen at most; `below` says that a minus stands before them.
+fn read_numbers(line: &[u8], from: usize, below: bool) -> Entry
     requires { ⌜ from ≤ length (now line) + 1 ⌝ }
-    ensures { λ r. ⌜ r ≡ firstOf current (left (now (line .entry)) from) ⌝ }
+    ensures { λ r. ⌜ r ≡ startOf below (left (now (line .entry)) from) ⌝ }
 {
-    let mut numbers: [u16; 12] = [0; 12];
+    let mut numbers: [u16; 13] = [0; 13];
     let mut count: usize = 0;
     let mut at = from;
     while at <= line.len() {
-        if 12 <= count {
+        if 13 <= count {
             return no_entry();
         }
-        let n = numbers::number_at(line, at);
+        let n = number_at(line, at);
         let FieldNumber::Value { number, end } = n else {
             return no_entry();
         };
@@ -116,26 +119,23 @@ fn read_numbers(line: &[u8], from: usize, current: i16) -> Entry
         count += 1;
         at = end + 1;
     }
-    if count < 2 {
+    if count < 3 {
         return no_entry();
     }
-    offered(current, numbers, (count - 2) as u8)
-}
-
-// `S` has current, temperature 1, temperature 2 and the cells.
-fn read_sample(line: &[u8], at: usize) -> Entry
-    requires { ⌜ at ≤ length (now line) + 1 ⌝ }
-    ensures { λ r. ⌜ r ≡ sampleOf (left (now (line .entry)) at) ⌝ }
-{
-    if line.len() < at {
-        return no_entry();
-    }
-    let f = text::field(line, at);
-    let Signed::Value(current) = numbers::read_signed(f) else {
+    let c = with_sign(below, numbers[0]);
+    let Signed::Value(current) = c else {
         return no_entry();
     };
-    let next = at + f.len() + 1;
-    read_numbers(line, next, current)
+    offered(current, numbers, (count - 3) as u8)
+}
+
+// `S` has current, temperature 1, temperature 2 and the cells; only the current may have a minus.
+fn read_sample(line: &[u8], from: usize) -> Entry
+    requires { ⌜ from ≤ length (now line) + 1 ⌝ }
+    ensures { λ r. ⌜ r ≡ sampleOf (left (now (line .entry)) from) ⌝ }
+{
+    let start = past_minus(line, from);
+    read_numbers(line, start, from < start)
 }
 
 // What a line says. A carriage return is in no field that can be read, so that it is not looked for.

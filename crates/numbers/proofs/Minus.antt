@@ -28,11 +28,7 @@ module _ (v : ℕ) (l : 1 ≤ v) (h : v ≤ 32768) where
   pub fall-is : toZ w16 (ofZ w16 (negsuc 0 -ℤ toZ w16 (v - 1))) ≡ minus v
   fall-is = toZ-ofZ fall-fits ∙ fall ∙ less-one v l
 
--- a number behind a minus, by whether it is 0
-pub below-none : (v : ℕ) → v ≡ 0 → belowOf (Value v) ≡ signed.Malformed
-below-none zero e = refl
-below-none (suc v) e = absurd (omega arith)
-
+-- a number behind a minus that is not 0
 pub below-some : (v : ℕ) → 1 ≤ v → belowOf (Value v) ≡ signed.Value (minus v)
 below-some zero l = absurd (omega arith)
 below-some (suc v) l = refl

@@ -34,22 +34,3 @@ module _ (most : ℕ) (f : List ℕ) (v i : ℕ) where
   pub over : length f ≤ i → digitsTo most v (drop i f) ≡ Value v
   unfolding digitsTo
   over h = rw (drop-of-length-le f h)
-
--- which case of signedOf holds, by the length and the first byte
-pub signed-empty : (f : List ℕ) → length f ≡ 0 → signedOf f ≡ signed.Malformed
-unfolding signedOf
-signed-empty [] e = refl
-signed-empty (b ∷ bs) e = absurd (omega arith)
-
-pub signed-minus : (f : List ℕ) → 0 < length f → getD f 0 0 ≡ 45
-    → signedOf f ≡ belowOf (numberTo 32768 (take (length f - 1) (drop 1 f)))
-unfolding signedOf
-signed-minus [] h e = absurd (omega arith)
-signed-minus (b ∷ bs) h e =
-    let n : suc (length bs) - 1 ≡ length bs = omega arith in
-    rw (eq-eqb b 45 e, n, take-length bs)
-
-pub signed-plain : (f : List ℕ) → 0 < length f → (getD f 0 0 ≡ 45 → ⊥) → signedOf f ≡ aboveOf (numberTo 32767 f)
-unfolding signedOf
-signed-plain [] h e = absurd (omega arith)
-signed-plain (b ∷ bs) h e = rw (ne-eqb b 45 e)

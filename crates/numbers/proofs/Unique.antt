@@ -5,8 +5,10 @@ use Rattle.numbers.proofs.read_number.Reads as read-number
 use Rattle.numbers.proofs.read_number.Kinds as read-number-kinds
 use Rattle.numbers.proofs.number_at.Reads as number-at
 use Rattle.numbers.proofs.number_at.Kinds as number-at-kinds
-use Rattle.numbers.proofs.read_signed.Reads as read-signed
-use Rattle.numbers.proofs.read_signed.Kinds as read-signed-kinds
+use Rattle.numbers.proofs.with_sign.Reads as with-sign
+use Rattle.numbers.proofs.with_sign.Kinds as with-sign-kinds
+use Rattle.numbers.proofs.past_minus.Reads as past-minus
+use Rattle.numbers.proofs.past_minus.Kinds as past-minus-kinds
 
 read-number-one : Unique 1 read-number-kinds.ps read-number-kinds.r read-number.Post
 read-number-one κs a x y s t p q = p ∙ sym q
@@ -14,5 +16,8 @@ read-number-one κs a x y s t p q = p ∙ sym q
 number-at-one : Unique 1 number-at-kinds.ps number-at-kinds.r number-at.Post
 number-at-one κs a x y s t p q = p ∙ sym q
 
-read-signed-one : Unique 1 read-signed-kinds.ps read-signed-kinds.r read-signed.Post
-read-signed-one κs a x y s t p q = p ∙ sym q
+with-sign-one : Unique 0 with-sign-kinds.ps with-sign-kinds.r with-sign.Post
+with-sign-one κs a x y s t p q = p ∙ sym q
+
+past-minus-one : Unique 1 past-minus-kinds.ps past-minus-kinds.r past-minus.Post
+past-minus-one κs a x y s t p q = p .0 ∙ sym (q .0)

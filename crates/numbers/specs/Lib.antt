@@ -1,4 +1,5 @@
 pub mod Numbers
 pub mod Canonical
 pub mod NumberAt
+pub mod Signs
 pub mod Cases

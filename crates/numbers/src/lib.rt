@@ -1,8 +1,9 @@
 // Numbers: decimal numbers read from a field, and from the field at a place of a line.
 ghost use mathlib.Core.Path.{_≡_};
-ghost use Prim.Native.Nat.{_+_, _≤_};
+ghost use Prim.Native.Nat.{_+_, _-_, _≤_};
 ghost use lib.ListN.{length};
-ghost use Rattle.numbers.specs.Numbers.{digitsTo, numberTo, numberOf, signedOf, belowOf, minus};
+ghost use Rattle.numbers.specs.Numbers.{digitsTo, numberTo, numberOf, minus};
+ghost use Rattle.numbers.specs.Signs.{withSign, pastMinus};
 ghost use Rattle.numbers.specs.NumberAt.{noDigit, orZero, fourAt, fourLeft, numberAt};
 use text::field;
 
@@ -168,33 +169,34 @@ fn negative(v: u16) -> i16
     -1 - ((v - 1) as i16)
 }
 
-// The digits behind a minus as a number -32768..-1.
-fn below_zero(digits: &[u8]) -> Signed
-    ensures { λ r. ⌜ r ≡ belowOf (numberTo 32768 (now (digits .entry))) ⌝ }
+// A number with its sign, -32768..32767; there is no -0.
+pub fn with_sign(below: bool, v: u16) -> Signed
+    ensures { λ r. ⌜ r ≡ withSign below v ⌝ }
 {
-    let n = number_to(digits, 32768);
-    let Number::Value(v) = n else {
-        return Signed::Malformed;
-    };
-    if v == 0 {
+    if below {
+        if v == 0 {
+            return Signed::Malformed;
+        }
+        if 32768 < v {
+            return Signed::Malformed;
+        }
+        return Signed::Value(negative(v));
+    }
+    if 32767 < v {
         return Signed::Malformed;
     }
-    Signed::Value(negative(v))
+    Signed::Value(v as i16)
 }
 
-// A field as a number -32768..32767.
-pub fn read_signed(field: &[u8]) -> Signed
-    ensures { λ r. ⌜ r ≡ signedOf (now (field .entry)) ⌝ }
+// Where the digits start of a field that starts at `from`: behind its minus, if it has one.
+pub fn past_minus(line: &[u8], from: usize) -> usize
+    ensures { λ r. ⌜ r ≡ pastMinus (now (line .entry)) from ⌝ }
+    ensures { λ r. ⌜ (from ≤ r) × (r - from ≤ length (now (line .entry)) - from) ⌝ }
 {
-    if field.len() == 0 {
-        return Signed::Malformed;
+    if from < line.len() {
+        if line[from] == 45 {
+            return from + 1;
+        }
     }
-    if field[0] == 45 {
-        return below_zero(&field[1..]);
-    }
-    let n = number_to(field, 32767);
-    let Number::Value(v) = n else {
-        return Signed::Malformed;
-    };
-    Signed::Value(v as i16)
+    from
 }

@@ -63,7 +63,7 @@ returns c = let l = c .before .loop in
     let a = c .before .before .args in
     let g = c .before .before .good .1 .0 in
     rw (toZ-ofZ (c .before .before .fits .current))
-    (ap (λ (cells : List MilliVolts). offer (a .current) (getD (a .t2) 0 0) (getD (a .t2) 1 0) (a .count) cells) (rw e at (l .inv .1) ∙ ten-cells (a .t2) (good-length (eInt w16) 12 (a .t2) _ g)))
+    (ap (λ (cells : List MilliVolts). offer (a .current) (getD (a .t2) 1 0) (getD (a .t2) 2 0) (a .count) cells) (rw e at (l .inv .1) ∙ ten-cells (a .t2) (good-length (eInt w16) 13 (a .t2) _ g)))
 
 pub offered-spec : {M : Type 1} → statement M
 offered-spec =
