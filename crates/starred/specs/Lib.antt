@@ -1,0 +1,2 @@
+pub mod EverySecond
+pub mod Starred
