@@ -200,33 +200,50 @@ overlong line h = rw (lt-ltb 128 (length line) h)
 
 -- ---- the steps of the reader
 
--- The first field is not one letter, or it is.
-no-letter : (f : List ℕ) (fs : List (List ℕ)) → (length f ≡ 1 → ⊥) → fieldsSay (f ∷ fs) ≡ malformed
+-- A line that has no letter and a tab behind it.
+two-bytes : (a b : ℕ) (fs : List (List ℕ)) → fieldsSay (longer a (longer b fs)) ≡ malformed
 unfolding fieldsSay
-no-letter [] fs n = refl
-no-letter (b ∷ []) fs n = absurd (n refl)
-no-letter (b ∷ c ∷ bs) fs n = refl
+two-bytes a b [] = refl
+two-bytes a b (f ∷ fs) = refl
 
-one-letter : (f : List ℕ) (fs : List (List ℕ)) → length f ≡ 1
-    → fieldsSay (f ∷ fs) ≡ cond (eqb (getD f 0 0) 70) (commandOf fs) (cond (eqb (getD f 0 0) 83) (sampleOf fs) malformed)
-unfolding fieldsSay
-one-letter [] fs n = absurd (omega arith)
-one-letter (b ∷ []) fs n = refl
-one-letter (b ∷ c ∷ bs) fs n = absurd (omega arith)
+no-tab : (line : List ℕ) → (getD line 1 9 ≡ 9 → ⊥) → fieldsSay (fieldsOf line) ≡ malformed
+unfolding fieldsOf fieldsSay
+no-tab [] n = refl
+no-tab (a ∷ []) n = absurd (n refl)
+no-tab (a ∷ b ∷ bs) n =
+    by-test (eqb a 9) (λ t. rw t) (λ t. rw (t, ne-eqb b 9 n) (two-bytes a b (fieldsOf bs)))
 
-module _ (line f : List ℕ) (e : f ≡ fieldAt line 0) where
-  line-fields : fieldsOf line ≡ f ∷ left line (0 + length f + 1)
-  line-fields = sym (left-some line 0 (omega arith)) ∙ left-next line 0 f e (omega arith)
+one-byte : (line : List ℕ) → length line < 2 → fieldsSay (fieldsOf line) ≡ malformed
+unfolding fieldsOf fieldsSay commandOf sampleOf
+one-byte [] h = refl
+one-byte (a ∷ []) h =
+    by-test (eqb a 9) (λ t. rw t)
+    (λ t. rw t (by-test (eqb a 70) (λ u. rw u) (λ u. rw u (by-test (eqb a 83) (λ w. rw w) (λ w. rw w)))))
+one-byte (a ∷ b ∷ bs) h = absurd (omega arith)
 
-  pub line-other : (length f ≡ 1 → ⊥) → entryOf line ≡ malformed
-  line-other n = rows-implied line ∙ ap fieldsSay line-fields ∙ no-letter f (left line (0 + length f + 1)) n
+-- A letter and a tab, and what follows them.
+letter-tab : (a : ℕ) (bs : List ℕ)
+    → fieldsSay (fieldsOf (a ∷ 9 ∷ bs)) ≡ cond (eqb a 70) (commandOf (fieldsOf bs)) (cond (eqb a 83) (sampleOf (fieldsOf bs)) malformed)
+unfolding fieldsOf fieldsSay
+letter-tab a bs = by-test (eqb a 9) (λ t. rw (t, eqb-true a 9 t)) (λ t. rw t)
 
-  pub line-letter : length f ≡ 1
-      → entryOf line ≡ cond (eqb (getD f 0 0) 70) (commandOf (left line 2)) (cond (eqb (getD f 0 0) 83) (sampleOf (left line 2)) malformed)
-  line-letter n =
-      rows-implied line
-      ∙ ap fieldsSay (line-fields ∙ ap (λ (k : ℕ). f ∷ left line (0 + k + 1)) n)
-      ∙ one-letter f (left line 2) n
+pub line-short : (line : List ℕ) → length line < 2 → entryOf line ≡ malformed
+line-short line h = rows-implied line ∙ one-byte line h
+
+pub line-other : (line : List ℕ) → 1 < length line → (getD line 1 0 ≡ 9 → ⊥) → entryOf line ≡ malformed
+line-other [] h n = absurd (omega arith)
+line-other (a ∷ []) h n = absurd (omega arith)
+line-other (a ∷ b ∷ bs) h n = rows-implied (a ∷ b ∷ bs) ∙ no-tab (a ∷ b ∷ bs) n
+
+pub line-letter : (line : List ℕ) → 1 < length line → getD line 1 0 ≡ 9
+    → entryOf line ≡ cond (eqb (getD line 0 0) 70) (commandOf (left line 2)) (cond (eqb (getD line 0 0) 83) (sampleOf (left line 2)) malformed)
+line-letter [] h e = absurd (omega arith)
+line-letter (a ∷ []) h e = absurd (omega arith)
+line-letter (a ∷ b ∷ bs) h e =
+    rows-implied (a ∷ b ∷ bs)
+    ∙ ap (λ (c : ℕ). fieldsSay (fieldsOf (a ∷ c ∷ bs))) e
+    ∙ letter-tab a bs
+    ∙ ap (λ (fs : List (List ℕ)). cond (eqb a 70) (commandOf fs) (cond (eqb a 83) (sampleOf fs) malformed)) (sym (left-some (a ∷ b ∷ bs) 2 (omega arith)))
 
 -- A field f at a place of the line, where the command is to be read, and a tab behind it.
 pub command-over : (line : List ℕ) (at : ℕ) (f : List ℕ) → f ≡ fieldAt line at → at ≤ length line → length f < length line - at

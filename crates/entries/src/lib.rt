@@ -145,11 +145,13 @@ pub fn read_entry(line: &[u8]) -> Entry
     if 128 < line.len() {
         return no_entry();
     }
-    let f = text::field(line, 0);
-    if f.len() != 1 {
+    if line.len() < 2 {
         return no_entry();
     }
-    let letter = f[0];
+    if line[1] != 9 {
+        return no_entry();
+    }
+    let letter = line[0];
     if letter == 83 {
         return read_sample(line, 2);
     }
