@@ -119,14 +119,12 @@ fn four_left(line: &[u8], from: usize) -> bool
     ensures { λ r. ⌜ r ≡ fourLeft (now (line .entry)) from ⌝ }
 {
     let n = line.len();
-    if n < 4 {
+    if n < from {
         return false;
     }
-    if n - 4 < from {
-        return false;
-    }
-    if n - 4 == from {
-        return true;
+    let left = n - from;
+    if left < 5 {
+        return left == 4;
     }
     line[from + 4] == 9
 }
