@@ -6,8 +6,6 @@ use contract.Lifetimes.{Lfts}
 use denote.Triple.Clauses.{AtExit}
 use Rattle.lines.proofs.next_line.Reads as next-line
 use Rattle.lines.proofs.next_line.Kinds as next-line-kinds
-use Rattle.lines.proofs.last_line.Reads as last-line
-use Rattle.lines.proofs.last_line.Kinds as last-line-kinds
 use Rattle.lines.proofs.carried.Reads as carried
 use Rattle.lines.proofs.carried.Kinds as carried-kinds
 use Rattle.lines.proofs.move_down.Reads as move-down
@@ -15,9 +13,6 @@ use Rattle.lines.proofs.move_down.Kinds as move-down-kinds
 
 next-line-one : Unique 1 next-line-kinds.ps next-line-kinds.r next-line.Post
 next-line-one κs a x y s t p q = p ∙ sym q
-
-last-line-one : Unique 1 last-line-kinds.ps last-line-kinds.r last-line.Post
-last-line-one κs a x y s t p q = p ∙ sym q
 
 carried-one : Unique 0 carried-kinds.ps carried-kinds.r carried.Post
 carried-one κs a x y s t p q = p .0 ∙ sym (q .0)

@@ -5,13 +5,12 @@ use mathlib.Core.Bool.{true, false}
 use mathlib.Core.List.{List, [], _∷_, _++_}
 use lib.ListN.{replicate}
 use Rattle.text.specs.Finding.{before}
-use Rattle.lines.specs.Lines.{linesOf, nextLine, lastLine}
+use Rattle.lines.specs.Lines.{linesOf, nextLine}
 use Rattle.lines.specs.Carrying.{carriedOf, movedDown}
 use Rattle.lines.specs.Walking.{whole}
 use Rattle.lines.specs.Output.{output, answers}
 use Rattle.lines.specs.Chunk.{turns, turned}
 use Rattle.lines.specs.declared.NextLine.the-variants.{Ends, Unfinished, Overlong}
-use Rattle.lines.specs.declared.LastLine.the-variants.{Line, Nothing}
 
 -- an empty log has no line, one newline is one empty line
 pub few : (linesOf [] ≡ []) × (linesOf (10 ∷ []) ≡ [] ∷ [])
@@ -26,9 +25,8 @@ last = (refl, refl, refl)
 
 -- of "A", newline, "B": the line from 0 on, the line from 2 on, and past the end
 pub next : (nextLine (65 ∷ 10 ∷ 66 ∷ []) 0 ≡ Ends 1 2) × (nextLine (65 ∷ 10 ∷ 66 ∷ []) 2 ≡ Unfinished) × (nextLine (65 ∷ 10 ∷ 66 ∷ []) 9 ≡ Unfinished)
-    × (lastLine (65 ∷ 10 ∷ 66 ∷ []) 2 ≡ Line) × (lastLine (65 ∷ 10 ∷ 66 ∷ []) 3 ≡ Nothing)
-unfolding nextLine lastLine before
-next = (refl, refl, refl, refl, refl)
+unfolding nextLine before
+next = (refl, refl, refl)
 
 -- 128 bytes may still become a line, 129 may not
 pub long : (nextLine (replicate 128 65) 0 ≡ Unfinished) × (nextLine (replicate 129 65) 0 ≡ Overlong) × (nextLine (replicate 129 65 ++ (10 ∷ [])) 0 ≡ Ends 129 130)

@@ -8,8 +8,6 @@ use Rattle.text.specs.Finding.{before, lacks}
 use Rattle.text.specs.Fields.{longer}
 use Rattle.lines.specs.declared.NextLine.{NextLine}
 use Rattle.lines.specs.declared.NextLine.the-variants.{Ends, Unfinished, Overlong}
-use Rattle.lines.specs.declared.LastLine.{LastLine}
-use Rattle.lines.specs.declared.LastLine.the-variants.{Line, Nothing}
 
 -- "The last line need not end, and nothing after a final newline is a line": a newline is byte 10
 -- (longer: the first of the lines with one byte more in front; where there is none, that byte is one)
@@ -34,7 +32,3 @@ nextOf from x =
 -- the next line from from on
 unfoldable pub nextLine : List ℕ → ℕ → NextLine
 nextLine text from = nextOf from (drop from text)
-
--- the last line, where no newline is left: nothing is no line
-unfoldable pub lastLine : List ℕ → ℕ → LastLine
-lastLine text from = cond (ltb from (length text)) Line Nothing

@@ -11,10 +11,9 @@ use borrow.Author.Tests.{lt-ltb, le-ltb, ltb-true, ltb-false}
 use Rattle.laws.specs.Tests.{by-test}
 use Rattle.text.specs.Finding.{before, lacks, lacks-head, before-front, before-lacks, before-splits, before-all}
 use Rattle.text.specs.Fields.{longer}
-use Rattle.lines.specs.Lines.{linesOf, plain, endOf, nextLine, lastLine}
+use Rattle.lines.specs.Lines.{linesOf, plain, endOf, nextLine}
 use Rattle.lines.specs.declared.NextLine.{NextLine}
 use Rattle.lines.specs.declared.NextLine.the-variants.{Ends, Unfinished, Overlong}
-use Rattle.lines.specs.declared.LastLine.the-variants.{Line, Nothing}
 
 -- ---- bytes without a newline in front of the rest
 
@@ -178,33 +177,3 @@ module _ (text : List ℕ) (from : ℕ) where
 
     pub lines-next : linesOf left ≡ take (end - from) left ∷ linesOf (drop next text)
     lines-next = ap linesOf ended-splits ∙ lines-line (take (end - from) left) (drop next text) ended-plain
-
-  -- whether anything is left
-  pub last-some : from < length text → Line ≡ lastLine text from
-  unfolding lastLine
-  last-some h = rw (lt-ltb from (length text) h)
-
-  pub last-none : length text ≤ from → Nothing ≡ lastLine text from
-  unfolding lastLine
-  last-none h = rw (le-ltb from (length text) h)
-
-  -- the last line, where no newline is left
-  pub lines-last : plain left ≡ true → lastLine text from ≡ Line → linesOf left ≡ left ∷ []
-  unfolding lastLine
-  lines-last p e = lines-rest left p ∙ alone left (some (ltb from (length text)) refl)
-    where
-      some : (b : Bool) → b ≡ ltb from (length text) → 0 < length left
-      some true t = let k = left-length in let h = ltb-true from (length text) (sym t) in omega arith
-      some false t = absurd (let q : Nothing ≡ Line = rw (← t) at e in let z : _≡_ {A = ℕ} 0 1 = cc in omega arith)
-
-      alone : (l : List ℕ) → 0 < length l → onto l [] ≡ l ∷ []
-      alone [] h = absurd (omega arith)
-      alone (b ∷ l) h = refl
-
-  pub lines-nothing : lastLine text from ≡ Nothing → linesOf left ≡ []
-  unfolding lastLine linesOf
-  lines-nothing e = past (ltb from (length text)) refl
-    where
-      past : (b : Bool) → b ≡ ltb from (length text) → linesOf left ≡ []
-      past true t = absurd (let q : Line ≡ Nothing = rw (← t) at e in let z : _≡_ {A = ℕ} 0 1 = cc in omega arith)
-      past false t = let h : length text ≤ from = ltb-false from (length text) (sym t) in rw (drop-of-length-le text h)

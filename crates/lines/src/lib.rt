@@ -1,7 +1,7 @@
 // Lines: a log cut into lines wherever the reads cut it, with nothing said of what a line means.
 ghost use mathlib.Core.Path.{_≡_};
 ghost use Prim.Native.Nat.{_≤_};
-ghost use Rattle.lines.specs.Lines.{nextLine, lastLine};
+ghost use Rattle.lines.specs.Lines.{nextLine};
 ghost use Rattle.lines.specs.Carrying.{carriedOf, movedDown};
 
 // The next line of a buffer.
@@ -12,13 +12,6 @@ pub enum NextLine {
     Unfinished,
     // No newline is left, and what is left is over 128 bytes already.
     Overlong,
-}
-
-// What is left at the end of the log.
-pub enum LastLine {
-    // A line that does not end.
-    Line,
-    Nothing,
 }
 
 // The next line of the bytes from `from` on: the part up to `end`, without its newline.
@@ -40,17 +33,6 @@ pub fn next_line(bytes: &[u8], from: usize) -> NextLine
         return NextLine::Unfinished;
     }
     NextLine::Overlong
-}
-
-// Whether the bytes from `from` on, in which no newline is left at the end of the log, are its last line.
-pub fn last_line(bytes: &[u8], from: usize) -> LastLine
-    ensures { λ r. ⌜ r ≡ lastLine (now (bytes .entry)) from ⌝ }
-{
-    if from < bytes.len() {
-        LastLine::Line
-    } else {
-        LastLine::Nothing
-    }
 }
 
 // How many of the bytes that are left are carried on to the next read: all while lines wait in them; where no newline is left (`done`),

@@ -3,8 +3,6 @@ use mathlib.Core.Path.{sym, _∙_}
 use Rattle.laws.specs.Unique.{Unique}
 use Rattle.numbers.proofs.read_number.Reads as read-number
 use Rattle.numbers.proofs.read_number.Kinds as read-number-kinds
-use Rattle.numbers.proofs.number_at.Reads as number-at
-use Rattle.numbers.proofs.number_at.Kinds as number-at-kinds
 use Rattle.numbers.proofs.with_sign.Reads as with-sign
 use Rattle.numbers.proofs.with_sign.Kinds as with-sign-kinds
 use Rattle.numbers.proofs.past_minus.Reads as past-minus
@@ -12,9 +10,6 @@ use Rattle.numbers.proofs.past_minus.Kinds as past-minus-kinds
 
 read-number-one : Unique 1 read-number-kinds.ps read-number-kinds.r read-number.Post
 read-number-one κs a x y s t p q = p ∙ sym q
-
-number-at-one : Unique 1 number-at-kinds.ps number-at-kinds.r number-at.Post
-number-at-one κs a x y s t p q = p ∙ sym q
 
 with-sign-one : Unique 0 with-sign-kinds.ps with-sign-kinds.r with-sign.Post
 with-sign-one κs a x y s t p q = p ∙ sym q

@@ -1,11 +1,9 @@
-// Numbers: decimal numbers read from a field, and from the field at a place of a line.
+// Numbers: decimal numbers read from a field, and the sign of a number.
 ghost use mathlib.Core.Path.{_≡_};
-ghost use Prim.Native.Nat.{_+_, _-_, _≤_};
+ghost use Prim.Native.Nat.{_-_, _≤_};
 ghost use lib.ListN.{length};
 ghost use Rattle.numbers.specs.Numbers.{digitsTo, numberTo, numberOf, minus};
 ghost use Rattle.numbers.specs.Signs.{withSign, pastMinus};
-ghost use Rattle.numbers.specs.NumberAt.{noDigit, orZero, fourAt, fourLeft, numberAt};
-use text::field;
 
 // A field as a number.
 pub enum Number {
@@ -19,12 +17,7 @@ pub enum Signed {
     Malformed,
 }
 
-// The field at a place of a line as a number, and the place where it ends.
-pub enum FieldNumber {
-    Value { number: u16, end: usize },
-    Malformed,
-}
-
+// A byte as a wider number, of which it is still known that it is a byte.
 fn wide(b: u8) -> u32
     ensures { λ r. ⌜ (r ≡ b) × (r ≤ 255) ⌝ }
 {
@@ -75,88 +68,6 @@ pub fn read_number(field: &[u8]) -> Number
     ensures { λ r. ⌜ r ≡ numberOf (now (field .entry)) ⌝ }
 {
     number_to(field, 65535)
-}
-
-fn no_digit(b: u8) -> bool
-    ensures { λ r. ⌜ r ≡ noDigit b ⌝ }
-{
-    if b < 48 {
-        return true;
-    }
-    57 < b
-}
-
-// The number that the four bytes from `from` on spell, or 0 where they spell none: 53328 is 48 * 1111.
-fn four(line: &[u8], from: usize) -> u16
-    requires { ⌜ from + 4 ≤ length (now line) ⌝ }
-    ensures { λ r. ⌜ r ≡ orZero (numberOf (fourAt (now (line .entry)) from)) ⌝ }
-{
-    let a = line[from];
-    if a == 48 {
-        return 0;
-    }
-    if no_digit(a) {
-        return 0;
-    }
-    let b = line[from + 1];
-    if no_digit(b) {
-        return 0;
-    }
-    let c = line[from + 2];
-    if no_digit(c) {
-        return 0;
-    }
-    let d = line[from + 3];
-    if no_digit(d) {
-        return 0;
-    }
-    let v = wide(a) * 1000 + wide(b) * 100 + wide(c) * 10 + wide(d);
-    (v - 53328) as u16
-}
-
-// Whether four bytes are left from `from` on, and behind them the end or a tab.
-fn four_left(line: &[u8], from: usize) -> bool
-    ensures { λ r. ⌜ r ≡ fourLeft (now (line .entry)) from ⌝ }
-{
-    let n = line.len();
-    if n < from {
-        return false;
-    }
-    let left = n - from;
-    if left < 5 {
-        return left == 4;
-    }
-    line[from + 4] == 9
-}
-
-fn number_slowly(line: &[u8], from: usize) -> FieldNumber
-    ensures { λ r. ⌜ r ≡ numberAt (now (line .entry)) from ⌝ }
-{
-    let f = field(line, from);
-    let n = read_number(f);
-    let Number::Value(v) = n else {
-        return FieldNumber::Malformed;
-    };
-    FieldNumber::Value {
-        number: v,
-        end: from + f.len(),
-    }
-}
-
-// The field that starts at `from` as a number 0..65535, and where it ends. Most have four digits: those are read at once.
-pub fn number_at(line: &[u8], from: usize) -> FieldNumber
-    ensures { λ r. ⌜ r ≡ numberAt (now (line .entry)) from ⌝ }
-{
-    if four_left(line, from) {
-        let v = four(line, from);
-        if 0 < v {
-            return FieldNumber::Value {
-                number: v,
-                end: from + 4,
-            };
-        }
-    }
-    number_slowly(line, from)
 }
 
 // Minus `v`, for `v` from 1 to 32768: -32768 is made without ever being negated.

@@ -5,7 +5,7 @@ use Prim.Native.Nat.{_≤_, _+_, _-_}
 use lib.ListN.{length, getD, length-set}
 use Rattle.text.specs.Fields.{fieldAt}
 use Rattle.text.specs.Splitting.{field-within}
-use Rattle.numbers.specs.NumberAt.{number-at-value, number-at-none}
+use Rattle.inplace.specs.NumberAt.{number-at-value, number-at-none}
 use Rattle.numbers.specs.declared.Signed.{Signed}
 use Rattle.entries.proofs.Current.{current-same}
 use Rattle.entries.specs.Entry.{offer, ifSigned}

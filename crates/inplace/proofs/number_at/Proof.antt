@@ -2,11 +2,11 @@
 use mathlib.Core.Path.{sym, ap, _∙_}
 use Prim.Native.Nat.{ℕ, _+_}
 use native.Mathlib.Omega.{arith}
-use Rattle.numbers.specs.NumberAt.{four-within, four-quick}
-use Rattle.numbers.specs.declared.FieldNumber.the-variants as field
+use Rattle.inplace.specs.NumberAt.{four-within, four-quick}
+use Rattle.inplace.specs.declared.FieldNumber.the-variants as field
 use borrow.Author.Needs.{needs}
-use Rattle.numbers.proofs.number_at.Statement.{statement}
-use Rattle.numbers.proofs.number_at.Tie as tie
+use Rattle.inplace.proofs.number_at.Statement.{statement}
+use Rattle.inplace.proofs.number_at.Tie as tie
 
 four-left-requires : tie.Need-four-left-requires
 four-left-requires c κs = search needs

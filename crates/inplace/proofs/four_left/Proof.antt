@@ -5,8 +5,8 @@ use lib.ListN.{length}
 use borrow.Author.Needs.{needs}
 use borrow.Author.Tests.{le-leb, lt-leb, eq-eqb, ne-eqb}
 use Rattle.laws.specs.Tests.{by-order}
-use Rattle.numbers.proofs.four_left.Statement.{statement}
-use Rattle.numbers.proofs.four_left.Tie as tie
+use Rattle.inplace.proofs.four_left.Statement.{statement}
+use Rattle.inplace.proofs.four_left.Tie as tie
 
 returns : tie.Need-returns
 returns c = let a = c .before .args in rw (lt-leb (a .from + 4) (length (a .line .now)) (omega arith))

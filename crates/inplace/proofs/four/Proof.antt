@@ -5,11 +5,11 @@ use Prim.Native.Nat.{_+_}
 use lib.Dec.{lit≤}
 use lib.ListN.{getD}
 use native.Mathlib.Omega.{arith}
 use Rattle.numbers.specs.Canonical.{number-zero}
-use Rattle.numbers.specs.NumberAt.{noDigit, orZero, fourAt, four-span, number-byte, four-value}
+use Rattle.inplace.specs.NumberAt.{noDigit, orZero, fourAt, four-span, number-byte, four-value}
 use borrow.Author.Needs.{needs}
-use Rattle.numbers.proofs.four.Statement.{statement}
-use Rattle.numbers.proofs.four.Tie as tie
+use Rattle.inplace.proofs.four.Statement.{statement}
+use Rattle.inplace.proofs.four.Tie as tie
 
 shared-slice-read-a : tie.Need-shared-slice-read-a
 shared-slice-read-a c = search needs

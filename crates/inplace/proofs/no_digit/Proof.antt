@@ -1,7 +1,7 @@
 -- `no_digit` meets its contract.
 use borrow.Author.Tests.{lt-ltb, le-ltb}
-use Rattle.numbers.proofs.no_digit.Statement.{statement}
-use Rattle.numbers.proofs.no_digit.Tie as tie
+use Rattle.inplace.proofs.no_digit.Statement.{statement}
+use Rattle.inplace.proofs.no_digit.Tie as tie
 
 returns : tie.Need-returns
 returns c = rw (lt-ltb _ _ (c .if1 .taken))

@@ -4,13 +4,13 @@ use mathlib.Core.List.{List}
 use Prim.Native.Nat.{ℕ, _+_}
 use lib.ListN.{length}
 use Rattle.text.specs.Fields.{fieldAt}
 use Rattle.numbers.specs.Numbers.{numberOf}
-use Rattle.numbers.specs.NumberAt.{withEnd}
+use Rattle.inplace.specs.NumberAt.{withEnd}
 use Rattle.numbers.specs.declared.Number.{Number}
 use Rattle.numbers.specs.declared.Number.the-variants.{Value}
 use borrow.Author.Needs.{needs}
-use Rattle.numbers.proofs.number_slowly.Statement.{statement}
-use Rattle.numbers.proofs.number_slowly.Tie as tie
+use Rattle.inplace.proofs.number_slowly.Statement.{statement}
+use Rattle.inplace.proofs.number_slowly.Tie as tie
 
 field-requires : tie.Need-field-requires
 field-requires c κs = search needs

@@ -13,13 +13,13 @@ use borrow.Author.Tests.{le-ltb, ltb-false, leb-true, eqb-true, ne-eqb}
 use Rattle.laws.specs.Tests.{by-test, by-order, clash, and-left, and-right, or-cases}
 use Rattle.text.specs.Finding.{before, lacks, before-at, before-none}
 use Rattle.text.specs.Fields.{fieldAt}
 use Rattle.numbers.specs.Numbers.{digitsTo, numberTo, numberOf}
 use Rattle.text.specs.Spelling.{decimal-lacks}
 use Rattle.numbers.specs.Canonical.{number-text}
 use Rattle.numbers.specs.declared.Number.{Number}
 use Rattle.numbers.specs.declared.Number.the-variants.{Value, Malformed}
-use Rattle.numbers.specs.declared.FieldNumber.{FieldNumber}
-use Rattle.numbers.specs.declared.FieldNumber.the-variants as field
+use Rattle.inplace.specs.declared.FieldNumber.{FieldNumber}
+use Rattle.inplace.specs.declared.FieldNumber.the-variants as field
 
 abbrev pub withEnd : Number → ℕ → FieldNumber
 withEnd (Value v) e = field.Value v e
