@@ -4,16 +4,6 @@ use mathlib.Core.Path.{sym, _∙_}
 use Rattle.laws.specs.Unique.{Unique}
 use Rattle.guard.proofs.step_one.Reads as step-one
 use Rattle.guard.proofs.step_one.Kinds as step-one-kinds
-use Rattle.guard.proofs.step_all.Reads as step-all
-use Rattle.guard.proofs.step_all.Kinds as step-all-kinds
-use Rattle.guard.proofs.fresh.Reads as fresh
-use Rattle.guard.proofs.fresh.Kinds as fresh-kinds
 
 step-one-one : Unique 0 step-one-kinds.ps step-one-kinds.r step-one.Post
 step-one-one κs a x y s t p q = p ∙ sym q
-
-step-all-one : Unique 0 step-all-kinds.ps step-all-kinds.r step-all.Post
-step-all-one κs a x y s t p q = p ∙ sym q
-
-fresh-one : Unique 0 fresh-kinds.ps fresh-kinds.r fresh.Post
-fresh-one κs a x y s t p q = p ∙ sym q

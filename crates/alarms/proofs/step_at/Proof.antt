@@ -1,10 +1,10 @@
--- `guard::step_at` meets its contract. Assumes nothing.
+-- `alarms::step_at` meets its contract. Assumes nothing.
 use mir.Syntax.{w32}
 use mir.Facts.{toZ-ofZ}
 use Rattle.guard.specs.Steps.{stepWith}
 use borrow.Author.Needs.{needs}
-use Rattle.guard.proofs.step_at.Statement.{statement}
-use Rattle.guard.proofs.step_at.Tie as tie
+use Rattle.alarms.proofs.step_at.Statement.{statement}
+use Rattle.alarms.proofs.step_at.Tie as tie
 
 row-of-requires : tie.Need-row-of-requires
 row-of-requires c κs = search needs

@@ -1,13 +1,13 @@
--- `guard::step_all` meets its contract: the entries below i are stepped, the others as they were. Assumes nothing.
+-- `alarms::step_all` meets its contract: the entries below i are stepped, the others as they were. Assumes nothing.
 use mathlib.Core.Path.{_≡_, refl}
 use Prim.Native.Nat.{_-_, _≤_}
 use Rattle.laws.specs.Each.{eachTo, each-next}
 use Rattle.protections.specs.Table.{protections}
 use Rattle.guard.specs.Steps.{noProtection, stepWith, within-next, step-all-is}
 use borrow.Author.Needs.{needs}
 use native.Mathlib.Omega.{arith}
-use Rattle.guard.proofs.step_all.Statement.{statement}
-use Rattle.guard.proofs.step_all.Tie as tie
+use Rattle.alarms.proofs.step_all.Statement.{statement}
+use Rattle.alarms.proofs.step_all.Tie as tie
 
 abbrev Inv-loop : tie.InvT-loop
 Inv-loop s e out₀ i₀ out i = (i ≤ protections) × (out ≡ eachTo noProtection (stepWith e s) i out₀)

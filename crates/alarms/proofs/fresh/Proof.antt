@@ -1,13 +1,13 @@
--- `guard::fresh` meets its contract: the entries below i are clear with their limits. Assumes nothing.
+-- `alarms::fresh` meets its contract: the entries below i are clear with their limits. Assumes nothing.
 use mathlib.Core.Path.{_≡_, refl, _∙_}
 use Prim.Native.Nat.{_-_, _≤_}
 use Rattle.laws.specs.Each.{eachTo}
 use Rattle.protections.specs.Table.{protections}
 use Rattle.guard.specs.Steps.{noProtection, clearAt, clear-next, fresh-is}
 use borrow.Author.Needs.{needs}
 use native.Mathlib.Omega.{arith}
-use Rattle.guard.proofs.fresh.Statement.{statement}
-use Rattle.guard.proofs.fresh.Tie as tie
+use Rattle.alarms.proofs.fresh.Statement.{statement}
+use Rattle.alarms.proofs.fresh.Tie as tie
 
 abbrev Inv-loop : tie.InvT-loop
 Inv-loop ls out₀ i₀ out i = (i ≤ protections) × (out ≡ eachTo noProtection (clearAt ls) i out₀)
