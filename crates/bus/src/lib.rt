@@ -5,7 +5,7 @@ ghost use Rattle.pack.specs.Kept.{Kept};
 ghost use Rattle.bus.specs.Replies.{notInTable, cellAbove, frameOf, bytesFor, Fitting, repliedTo, toldTo, bytesAfter};
 use commands::Sends;
 use commands::row_of_command;
-use commands::sent_word;
+use sent::sent_word;
 use crc::check_byte;
 use pack::Pack;
 

@@ -4,11 +4,6 @@ use mathlib.Core.Path.{sym, _∙_}
 use Rattle.laws.specs.Unique.{Unique}
 use Rattle.commands.proofs.row_of_command.Reads as row-of-command
 use Rattle.commands.proofs.row_of_command.Kinds as row-of-command-kinds
-use Rattle.commands.proofs.sent_word.Reads as sent-word
-use Rattle.commands.proofs.sent_word.Kinds as sent-word-kinds
 
 row-of-command-one : Unique 0 row-of-command-kinds.ps row-of-command-kinds.r row-of-command.Post
 row-of-command-one κs a x y s t p q = p ∙ sym q
-
-sent-word-one : Unique 0 sent-word-kinds.ps sent-word-kinds.r sent-word.Post
-sent-word-one κs a x y s t p q = p ∙ sym q

@@ -1,8 +1,8 @@
--- `commands::raised_and_switches` meets its contract. Assumes nothing.
+-- `sent::raised_and_switches` meets its contract. Assumes nothing.
 use Rattle.commands.specs.Words.{withSwitches}
 use borrow.Author.Needs.{needs}
-use Rattle.commands.proofs.raised_and_switches.Statement.{statement}
-use Rattle.commands.proofs.raised_and_switches.Tie as tie
+use Rattle.sent.proofs.raised_and_switches.Statement.{statement}
+use Rattle.sent.proofs.raised_and_switches.Tie as tie
 
 raised-word-requires : tie.Need-raised-word-requires
 raised-word-requires c κs = search needs

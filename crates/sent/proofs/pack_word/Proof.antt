@@ -1,10 +1,10 @@
--- `commands::pack_word` meets its contract. Assumes nothing.
+-- `sent::pack_word` meets its contract. Assumes nothing.
 use Rattle.commands.specs.Words.{packWord}
 use mir.Facts.{toZ-ofZ}
 use mir.Syntax.{w16}
 use borrow.Author.Needs.{needs}
-use Rattle.commands.proofs.pack_word.Statement.{statement}
-use Rattle.commands.proofs.pack_word.Tie as tie
+use Rattle.sent.proofs.pack_word.Statement.{statement}
+use Rattle.sent.proofs.pack_word.Tie as tie
 
 enum-told : tie.Need-enum-told
 enum-told c = search needs

@@ -1,8 +1,8 @@
--- `commands::cell_word` meets its contract. Assumes nothing.
+-- `sent::cell_word` meets its contract. Assumes nothing.
 use Rattle.commands.specs.Words.{cell-zero, cell-past, cell-there}
 use borrow.Author.Needs.{needs}
-use Rattle.commands.proofs.cell_word.Statement.{statement}
-use Rattle.commands.proofs.cell_word.Tie as tie
+use Rattle.sent.proofs.cell_word.Statement.{statement}
+use Rattle.sent.proofs.cell_word.Tie as tie
 
 returns : tie.Need-returns
 returns c = cell-zero _ _ (c .if1 .taken)

@@ -1,8 +1,8 @@
--- `commands::heat_raised` meets its contract. Assumes nothing.
+-- `sent::heat_raised` meets its contract. Assumes nothing.
 use Rattle.commands.specs.Words.{heatRaised}
 use borrow.Author.Needs.{needs}
-use Rattle.commands.proofs.heat_raised.Statement.{statement}
-use Rattle.commands.proofs.heat_raised.Tie as tie
+use Rattle.sent.proofs.heat_raised.Statement.{statement}
+use Rattle.sent.proofs.heat_raised.Tie as tie
 
 has-bit-requires : tie.Need-has-bit-requires
 has-bit-requires c κs = search needs

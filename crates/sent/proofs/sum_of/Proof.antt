@@ -1,12 +1,12 @@
--- `commands::sum_of` meets its contract. The loop's invariant: `sum` is the sum of the first `i` cells. Assumes nothing.
+-- `sent::sum_of` meets its contract. The loop's invariant: `sum` is the sum of the first `i` cells. Assumes nothing.
 use Rattle.commands.specs.Words.{sumTo, sum-none, sum-next}
 use Rattle.quantities.specs.Cells.{looked-most}
 use Prim.Native.Nat.{_-_, _*_, _≤_}
 use mathlib.Core.Path.{_≡_, ap, _∙_}
 use borrow.Author.Needs.{needs}
 use native.Mathlib.Omega.{arith}
-use Rattle.commands.proofs.sum_of.Statement.{statement}
-use Rattle.commands.proofs.sum_of.Tie as tie
+use Rattle.sent.proofs.sum_of.Statement.{statement}
+use Rattle.sent.proofs.sum_of.Tie as tie
 
 abbrev Inv-loop : tie.InvT-loop
 Inv-loop count cells n sum₀ i₀ sum i = (i ≤ n) × (n ≤ 10) × (sum ≤ 65535 * i) × (sum ≡ sumTo cells i)

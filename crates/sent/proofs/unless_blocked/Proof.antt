@@ -1,7 +1,7 @@
--- `commands::unless_blocked` meets its contract. Assumes nothing.
+-- `sent::unless_blocked` meets its contract. Assumes nothing.
 use borrow.Author.Needs.{needs}
-use Rattle.commands.proofs.unless_blocked.Statement.{statement}
-use Rattle.commands.proofs.unless_blocked.Tie as tie
+use Rattle.sent.proofs.unless_blocked.Statement.{statement}
+use Rattle.sent.proofs.unless_blocked.Tie as tie
 
 blocks-requires : tie.Need-blocks-requires
 blocks-requires c κs = search needs

@@ -1,9 +1,9 @@
--- `commands::sent_word` meets its contract. Assumes nothing.
+-- `sent::sent_word` meets its contract. Assumes nothing.
 use Rattle.commands.specs.Words.{sentWord}
 use Rattle.commands.specs.Bounds.{kept-bounded}
 use borrow.Author.Needs.{needs}
-use Rattle.commands.proofs.sent_word.Statement.{statement}
-use Rattle.commands.proofs.sent_word.Tie as tie
+use Rattle.sent.proofs.sent_word.Statement.{statement}
+use Rattle.sent.proofs.sent_word.Tie as tie
 
 enum-told : tie.Need-enum-told
 enum-told c = search needs

@@ -1,13 +1,13 @@
--- `commands::status` meets its contract. Assumes nothing.
+-- `sent::status` meets its contract. Assumes nothing.
 use Rattle.commands.specs.Words.{heatRaised, saidOf, status-built}
 use Rattle.laws.specs.Bits.{hasBit}
 use Rattle.wishes.specs.Wants.{isCharging}
 use mathlib.Core.Path.{ap, ap₂, _∙_}
 use mir.Facts.{toZ-ofZ}
 use mir.Syntax.{w16}
 use borrow.Author.Needs.{needs}
-use Rattle.commands.proofs.status.Statement.{statement}
-use Rattle.commands.proofs.status.Tie as tie
+use Rattle.sent.proofs.status.Statement.{statement}
+use Rattle.sent.proofs.status.Tie as tie
 
 raised-word-requires : tie.Need-raised-word-requires
 raised-word-requires c κs = search needs
