@@ -1,8 +1,7 @@
-// Replies on the bus: the three bytes of a word, and the reply to a command into a lent buffer.
+// The bus: whether a command is answered, with which word, and the three bytes of a word.
 ghost use mathlib.Core.Path.{_≡_};
-ghost use lib.ListN.{length};
 ghost use Rattle.pack.specs.Kept.{Kept};
-ghost use Rattle.bus.specs.Replies.{notInTable, cellAbove, frameOf, bytesFor, Fitting, repliedTo, toldTo, bytesAfter};
+ghost use Rattle.bus.specs.Replies.{notInTable, cellAbove, frameOf, repliedTo, toldTo};
 use commands::Sends;
 use commands::row_of_command;
 use sent::sent_word;
@@ -28,7 +27,7 @@ pub enum Told {
     Refused { number: u8 },
 }
 
-// The three bytes of a command and a word.
+// The three bytes of a word that answer a command.
 pub fn frame(command: u8, word: u16) -> Framed
     ensures { λ r. ⌜ r ≡ frameOf command word ⌝ }
 {
@@ -65,9 +64,9 @@ fn cell_above(n: u8, row: Sends) -> bool
     }
 }
 
-// The lowest of 12 to 15 that applies. In a pack without a page n is 0 and there is no sample: each cell command is 13, and of the
+// Whether a command is answered into a buffer of `room` bytes: refused with the lowest of 12 to 15 that applies, or not. In a pack without a page n is 0 and there is no sample: each cell command is 13, and of the
 // others 0x41 alone is answered, with mode 0.
-fn answer_to(p: Pack, command: u8, room: usize) -> Replied
+pub fn answer_to(p: Pack, command: u8, room: usize) -> Replied
     ensures { λ r. ⌜ r ≡ repliedTo p command room ⌝ }
 {
     let rules = p.rules;
@@ -100,32 +99,4 @@ pub fn word_of_command(p: Pack, command: u8) -> Told
         Replied::Sent => Told::Word(sent_word(p, row_of_command(command))),
         Replied::Refused { number } => Told::Refused { number: number },
     }
-}
-
-// Puts the three bytes where the answer is `Sent`; a refusal leaves the buffer as it was.
-fn put(answer: Replied, f: Framed, out: &mut [u8])
-    requires { ⌜ Fitting answer (now out) ⌝ }
-    ensures { λ _. ⌜ now (out .exit) ≡ bytesFor answer f (now (out .entry)) ⌝ }
-{
-    match answer {
-        Replied::Sent => {
-            out[0] = f.low;
-            out[1] = f.high;
-            out[2] = f.check;
-        }
-        Replied::Refused { .. } => {}
-    }
-}
-
-// Answers a command into the lent buffer: refused with 12 to 15 and the buffer as it was, or its three bytes.
-pub fn reply(p: Pack, command: u8, out: &mut [u8]) -> Replied
-    requires { ⌜ Kept p ⌝ }
-    ensures { λ r. ⌜ r ≡ repliedTo p command (length (now (out .entry))) ⌝ }
-    ensures { λ r. ⌜ now (out .exit) ≡ bytesAfter p command (now (out .entry)) ⌝ }
-{
-    let answer = answer_to(p, command, out.len());
-    let word = sent_word(p, row_of_command(command));
-    let f = frame(command, word);
-    put(answer, f, out);
-    answer
 }

@@ -164,7 +164,7 @@ fn write_word(p: Pack, command: u8) -> bool
     io::print_hex(STDOUT_FILENO, command as u64, 2);
     io::write_all(STDOUT_FILENO, b"\t");
     let mut three = [0u8; 3];
-    let answer = bus::reply(p, command, &mut three);
+    let answer = replies::reply(p, command, &mut three);
     match answer {
         Replied::Sent => put_bytes(three),
         Replied::Refused { number } => put_refused(number),

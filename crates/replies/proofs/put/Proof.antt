@@ -1,10 +1,10 @@
--- `bus::put` meets its contract. Assumes nothing.
+-- `replies::put` meets its contract. Assumes nothing.
 use lib.ListN.{length-set}
 use native.Mathlib.Omega.{arith}
 use Rattle.bus.specs.Replies.{three-put}
 use borrow.Author.Needs.{needs}
-use Rattle.bus.proofs.put.Statement.{statement}
-use Rattle.bus.proofs.put.Tie as tie
+use Rattle.replies.proofs.put.Statement.{statement}
+use Rattle.replies.proofs.put.Tie as tie
 
 enum-told : tie.Need-enum-told
 enum-told c = search needs

@@ -1,9 +1,9 @@
--- `bus::reply` meets its contract. Assumes nothing.
+-- `replies::reply` meets its contract. Assumes nothing.
 use Rattle.bus.specs.Replies.{repliedTo, bytesAfter, sent-room}
 use mathlib.Core.Path.{sym, _∙_}
 use borrow.Author.Needs.{needs}
-use Rattle.bus.proofs.reply.Statement.{statement}
-use Rattle.bus.proofs.reply.Tie as tie
+use Rattle.replies.proofs.reply.Statement.{statement}
+use Rattle.replies.proofs.reply.Tie as tie
 
 answer-to-requires : tie.Need-answer-to-requires
 answer-to-requires c κs = search needs
