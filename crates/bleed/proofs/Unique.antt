@@ -4,16 +4,6 @@ use mathlib.Core.Path.{sym, _∙_}
 use Rattle.laws.specs.Unique.{Unique}
 use Rattle.bleed.proofs.choose.Reads as choose
 use Rattle.bleed.proofs.choose.Kinds as choose-kinds
-use Rattle.bleed.proofs.next_start.Reads as next-start
-use Rattle.bleed.proofs.next_start.Kinds as next-start-kinds
-use Rattle.bleed.proofs.next_runs.Reads as next-runs
-use Rattle.bleed.proofs.next_runs.Kinds as next-runs-kinds
 
 choose-one : Unique 0 choose-kinds.ps choose-kinds.r choose.Post
 choose-one κs a x y s t p q = p .walked ∙ sym (q .walked)
-
-next-start-one : Unique 0 next-start-kinds.ps next-start-kinds.r next-start.Post
-next-start-one κs a x y s t p q = p ∙ sym q
-
-next-runs-one : Unique 0 next-runs-kinds.ps next-runs-kinds.r next-runs.Post
-next-runs-one κs a x y s t p q = p ∙ sym q

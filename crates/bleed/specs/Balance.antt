@@ -2,7 +2,7 @@
 -- code's leads from what a history says to what the longer history says.
 -- Assumes nothing.
 use mathlib.Core.Path.{_≡_, refl, sym, ap, ap₂, _∙_}
-use mathlib.Core.Bool.{Bool, true, false, cond}
+use mathlib.Core.Bool.{Bool, true}
 use mathlib.Core.List.{List, [], _∷_, map}
 use Prim.Native.Nat.{ℕ, zero, suc, _+_, _-_, _%_, _≤_, _<_}
 use native.Mathlib.Nat.{le-trans, mod-lt, mod-add-mod, mod-self, mod-eq-of-lt, suc-add, add-suc, add-zero, le-of-suc-le-suc, not-suc-le-zero}
@@ -12,7 +12,7 @@ use lib.Dec.{ltb}
 use lib.Count.{ones}
 use lib.ListN.{length, getD, replicate}
 use lib.Seq.{ext-getD}
-use borrow.Author.Tests.{lt-ltb, ltb-true, ltb-false}
+use borrow.Author.Tests.{ltb-true, ltb-false}
 use Rattle.units.specs.declared.CellNo.{CellNo}
 use Rattle.units.specs.declared.MilliVolts.{MilliVolts}
 use Rattle.laws.specs.Tests.{by-test}
@@ -20,15 +20,16 @@ use Rattle.laws.specs.Bits.{hasBit, has-zero}
 use Rattle.laws.specs.Each.{each-length, each-below}
 use Rattle.laws.specs.Latest.{run, lastAll-run}
 use Rattle.wishes.specs.Word.{inWord, wordTo-in}
-use Rattle.wishes.specs.Steps.{runOf, wishes, wantingWord, rested, restingWord}
+use Rattle.wishes.specs.Steps.{wishes, wantingWord}
 use Rattle.wishes.specs.StepLaws.{ten-is}
+use Rattle.turns.specs.Steps.{nextCell, nextRun, nextRuns, runOf, rested, restingWord}
+use Rattle.turns.specs.StepLaws.{runs-none, run-goes-on}
 use Rattle.bleed.specs.Walk.{has, upFrom, order}
 use Rattle.bleed.specs.WalkLaws.{walk-same, order-only, only-cells}
 use Rattle.bleed.specs.History.{resting, startCell, bleds}
 use Rattle.bleed.specs.Demand.{run-short, never-more, never-neighbours}
 use Rattle.bleed.specs.Word.{wordOf, wordOf-bit, wordOf-few}
-use Rattle.bleed.specs.StepLaws.{runs-none}
-use Rattle.bleed.specs.Steps.{nextCell, nextRun, nextRuns, chosenWord, CellOf}
+use Rattle.bleed.specs.Steps.{chosenWord, CellOf}
 
 -- ---- the definitions
 
@@ -105,12 +106,6 @@ up-at : (a m i d : ℕ) (f : ℕ → ℕ) → i < m → getD (map f (upFrom a m)
 up-at a zero i d f h = absurd (not-suc-le-zero h)
 up-at a (suc m) zero d f h = rw add-zero
 up-at a (suc m) (suc i) d f h = up-at (suc a) m i d f (le-of-suc-le-suc h) ∙ ap f (suc-add a i ∙ sym (add-suc a i))
-
--- A counter below the last of a byte goes on where the cell was bled, and ends where it wasn't.
-run-goes-on : (b : Bool) (r : ℕ) → r < 255 → nextRun b r ≡ cond b (suc r) 0
-unfolding nextRun
-run-goes-on true r h = rw (lt-ltb r 255 h, add-one)
-run-goes-on false r h = refl
 
 module _ (n K R : ℕ) where
   counter : (ws : List (ℕ → Bool)) (i : ℕ) → i < 10 → getD (runsOf n K R ws) i 0 ≡ run (has (suc i)) (bleds n K R ws)

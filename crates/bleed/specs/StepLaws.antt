@@ -9,17 +9,16 @@ use native.Mathlib.Nat.{not-suc-le-zero, zero-lt-suc, le-trans}
 use native.Mathlib.Numerals.{add-one}
 use native.Mathlib.Omega.{arith}
 use lib.Dec.{ltb, eqb}
-use lib.ListN.{length, getD, set, length-append, replicate, getD-replicate}
-use lib.Seq.{ext-getD}
+use lib.ListN.{length, length-append}
 use borrow.Author.Tests.{lt-ltb, le-ltb, ltb-true, ltb-false, eq-eqb, ne-eqb, eqb-true}
 use Rattle.laws.specs.Tests.{by-test, clash, test-ext, and-left, and-right, or-left, or-right, or-cases}
-use Rattle.laws.specs.Bits.{hasBit, withBitIf, has-zero}
-use Rattle.laws.specs.Each.{each-next, each-length, each-below}
+use Rattle.laws.specs.Bits.{withBitIf}
 use Rattle.wishes.specs.Word.{inWord, in-none}
+use Rattle.turns.specs.Steps.{nextCell}
 use Rattle.bleed.specs.Walk.{has, neighbours, hasNeighbour, upFrom, order, takes, walk, chosen}
 use Rattle.bleed.specs.WalkLaws.{neighbour-of, has-append, upFrom-only, order-only, at-most-K, no-neighbours, only-cells, walk-none}
 use Rattle.bleed.specs.Word.{withCellIf, wordOf, Small, Once, wordOf-bit, wordOf-ones, wordOf-few}
-use Rattle.bleed.specs.Steps.{nextCell, nextRun, nextRunsTo, nextRuns, chosenWord, CellOf, Chosen, besideTaken, mayTake, takeOne, takeFrom}
+use Rattle.bleed.specs.Steps.{chosenWord, CellOf, Chosen, besideTaken, mayTake, takeOne, takeFrom}
 
 -- ---- the order of the walk is the next cell, again and again
 
@@ -178,32 +177,17 @@ chosen-meets n K want rest start word c e =
           (sym (wordOf-bit b i cells) ∙ (rw e at p)) (sym (wordOf-bit b (suc i) cells) ∙ (rw (e, add-one) at q));
     }
 
--- ---- answers that need no loop
+-- ---- the answer that needs no loop
 
 -- Nothing is chosen if no cell wants.
 pub chosen-none : (n K rest start : ℕ) → chosenWord n K 0 rest start ≡ 0
 unfolding chosenWord
 chosen-none n K rest start = ap wordOf (walk-none K (inWord 0) (inWord rest) in-none (order n start) [])
 
--- Every run ends where no cell was bled.
-pub runs-none : (runs : List ℕ) → length runs ≡ 10 → nextRuns 0 runs ≡ replicate 10 0
-unfolding nextRuns nextRun
-runs-none runs e =
-    let long : length (nextRuns 0 runs) ≡ 10 = each-length 0 (λ i run. nextRun (hasBit 0 i) run) 10 runs ∙ e in
-    ext-getD 0 (nextRuns 0 runs) (replicate 10 0) long
-    (λ i h.
-    each-below 0 (λ j run. nextRun (hasBit 0 j) run) 10 runs i (omega arith) (omega arith)
-    ∙ rw (has-zero i) (sym (getD-replicate 10 i 0 0 (omega arith))))
-
--- ---- one turn of each loop
+-- ---- one turn of the loop
 
 after-one : (i : ℕ) → suc i - 1 ≡ i
 after-one i = omega arith
-
-pub runs-next : (bled i : ℕ) (runs l : List ℕ) (b : Bool) (r : ℕ) → l ≡ nextRunsTo bled i runs → b ≡ hasBit bled i
-    → r ≡ nextRun b (getD l i 0) → set l i r ≡ nextRunsTo bled (i + 1) runs
-runs-next bled i runs l b r e eb er =
-    each-next 0 (λ j run. nextRun (hasBit bled j) run) i runs l r e (er ∙ ap (λ (x : Bool). nextRun x (getD l i 0)) eb)
 
 -- What is left of the walk, when one cell more is asked.
 pub take-on : (j n K want rest k taken : ℕ) → 0 < j

@@ -1,32 +1,15 @@
--- What the code works out at one sample, from the words of who wants and who rests, and from the run counters.
+-- What the code works out at one sample, from the words of who wants and who rests.
 -- Assumes nothing.
 use mathlib.Core.Path.{_≡_}
-use mathlib.Core.Bool.{Bool, true, not, cond, _&&_, _||_}
-use mathlib.Core.List.{List}
+use mathlib.Core.Bool.{Bool, true, not, _&&_, _||_}
 use Prim.Native.Nat.{ℕ, zero, suc, _+_, _-_, _≤_}
 use lib.Dec.{ltb}
 use lib.Count.{ones}
 use Rattle.laws.specs.Bits.{hasBit}
-use Rattle.laws.specs.Each.{eachTo}
 use Rattle.wishes.specs.Word.{inWord}
+use Rattle.turns.specs.Steps.{nextCell}
 use Rattle.bleed.specs.Walk.{chosen}
 use Rattle.bleed.specs.Word.{withCellIf, wordOf}
-
--- The cell after k, from n to 1.
-unfoldable pub nextCell : ℕ → ℕ → ℕ
-nextCell n k = cond (ltb k n) (k + 1) 1
-
--- A run of bled samples goes on by one or ends; a byte holds it, and it is never over R, which is 240 at most.
-unfoldable pub nextRun : Bool → ℕ → ℕ
-nextRun bled run = cond bled (cond (ltb run 255) (run + 1) run) 0
-
--- The run counters of the first m cells after a sample, and the others as they were: cell i + 1 has bit i and entry i.
-abbrev pub nextRunsTo : ℕ → ℕ → List ℕ → List ℕ
-nextRunsTo bled m runs = eachTo 0 (λ i run. nextRun (hasBit bled i) run) m runs
-
--- The run counters of all ten cells after a sample.
-unfoldable pub nextRuns : ℕ → List ℕ → List ℕ
-nextRuns bled runs = nextRunsTo bled 10 runs
 
 -- The word of the walk's cells: which cells want and which rest are words too.
 unfoldable pub chosenWord : ℕ → ℕ → ℕ → ℕ → ℕ → ℕ

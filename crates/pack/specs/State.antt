@@ -21,8 +21,9 @@ use Rattle.page.specs.declared.Verdict.the-variants.{Accepted, Refused}
 use Rattle.settings.specs.declared.Rules.{Rules}
 use Rattle.settings.specs.declared.Settings.{Settings}
 use Rattle.wishes.specs.Wants.{isCharging}
-use Rattle.wishes.specs.Steps.{wishes, wantingWord, restingWord}
-use Rattle.bleed.specs.Steps.{chosenWord, nextCell, nextRuns, CellOf}
+use Rattle.wishes.specs.Steps.{wishes, wantingWord}
+use Rattle.turns.specs.Steps.{nextCell, nextRuns, restingWord}
+use Rattle.bleed.specs.Steps.{chosenWord, CellOf}
 use Rattle.bleed.specs.History.{bleds, resting, startCell}
 use Rattle.wishes.specs.Word.{wordTo}
 use Rattle.bleed.specs.Balance.{runsOf, bledWord}

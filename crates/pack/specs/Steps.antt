@@ -22,9 +22,11 @@ use Rattle.settings.specs.declared.Settings.{Settings}
 use Rattle.settings.specs.Good.{Good, GoodLimits}
 use Rattle.bleed.specs.History.{bleds, resting, startCell}
 use Rattle.wishes.specs.Word.{wordTo}
-use Rattle.wishes.specs.Steps.{wantingWord, restingWord, rested, wishes, tenAtMost}
-use Rattle.bleed.specs.Steps.{chosenWord, nextCell, nextRuns, CellOf}
-use Rattle.wishes.specs.StepLaws.{ten-is, none-rest}
+use Rattle.wishes.specs.Steps.{wantingWord, wishes, tenAtMost}
+use Rattle.turns.specs.Steps.{nextCell, nextRuns, rested, restingWord}
+use Rattle.bleed.specs.Steps.{chosenWord, CellOf}
+use Rattle.wishes.specs.StepLaws.{ten-is}
+use Rattle.turns.specs.StepLaws.{none-rest}
 use Rattle.bleed.specs.Balance.{runsOf, bledWord, Shows, wanting-shows, start-cell, next-start-is, rested-is, choose-is, runs-are, runs-idle}
 use Rattle.settings.specs.declared.Rules.{Rules}
 use Rattle.pack.specs.declared.Balance.{Balance}

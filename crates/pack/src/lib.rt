@@ -1,12 +1,10 @@
 // The pack: loading a page, offering a sample, commanding the switches.
 ghost use mathlib.Core.Path.{_≡_};
-ghost use Rattle.wishes.specs.Steps.{restingWord};
+ghost use Rattle.turns.specs.Steps.{restingWord};
 ghost use Rattle.bleed.specs.Steps.{CellOf};
 ghost use Rattle.pack.specs.State.{noSample, nextTick, wantWith, freshBalance, nextBalance, Ready, freshPack, acceptedPack, offered, commanded};
 ghost use Rattle.pack.specs.Kept.{Kept, afterLoad};
 use bleed::choose;
-use bleed::next_runs;
-use bleed::next_start;
 use guard::Protection;
 use alarms::fresh;
 use alarms::step_all;
@@ -21,11 +19,13 @@ use samples::sample_verdict;
 use samples::trim;
 use settings::Rules;
 use settings::Settings;
+use turns::next_runs;
+use turns::next_start;
+use turns::resting;
 use units::CellNo;
 use units::DeciKelvin;
 use units::MilliVolts;
 use wishes::is_charging;
-use wishes::resting;
 use wishes::wanting;
 
 // What bleeding keeps: of the latest accepted sample its start cell, who rested and who was bled; for the next one the start

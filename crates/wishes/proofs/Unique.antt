@@ -8,8 +8,6 @@ use Rattle.wishes.proofs.wants_one.Reads as wants-one
 use Rattle.wishes.proofs.wants_one.Kinds as wants-one-kinds
 use Rattle.wishes.proofs.wanting.Reads as wanting
 use Rattle.wishes.proofs.wanting.Kinds as wanting-kinds
-use Rattle.wishes.proofs.resting.Reads as resting
-use Rattle.wishes.proofs.resting.Kinds as resting-kinds
 
 is-charging-one : Unique 0 is-charging-kinds.ps is-charging-kinds.r is-charging.Post
 is-charging-one κs a x y s t p q = p ∙ sym q
@@ -19,6 +17,3 @@ wants-one-one κs a x y s t p q = p ∙ sym q
 
 wanting-one : Unique 0 wanting-kinds.ps wanting-kinds.r wanting.Post
 wanting-one κs a x y s t p q = p ∙ sym q
-
-resting-one : Unique 0 resting-kinds.ps resting-kinds.r resting.Post
-resting-one κs a x y s t p q = p ∙ sym q

@@ -1,4 +1,4 @@
--- A case for each of document 01's slips on who wants, and the words of a pack of few cells, computed from the definitions.
+-- A case for each of document 01's slips on who wants, and the word of a pack of few cells, computed from the definitions.
 -- Assumes nothing.
 use mathlib.Core.Path.{_≡_, refl}
 use mathlib.Core.Bool.{Bool, true, false}
@@ -8,7 +8,7 @@ use Rattle.units.specs.declared.MilliVolts.{MilliVolts}
 use Rattle.laws.specs.Bits.{withBit, withBitIf}
 use Rattle.wishes.specs.Wants.{isCharging, wants}
 use Rattle.wishes.specs.Word.{wordTo}
-use Rattle.wishes.specs.Steps.{tenAtMost, cellOf, runOf, wishes, wantingWord, rested, restingWord}
+use Rattle.wishes.specs.Steps.{tenAtMost, cellOf, wishes, wantingWord}
 
 -- "More than" the difference, "at or above" the floor, "at least" the detection current, which is signed.
 abbrev tests : List Bool
@@ -35,7 +35,3 @@ volts = map (λ v. record { 0 = v }) (4011 ∷ 4000 ∷ 4010 ∷ 4500 ∷ 4500 �
 four-cells : wantingWord 4 true false 3900 10 4000 volts ∷ wantingWord 11 true false 3900 10 4000 volts ∷ [] ≡ 0x009 ∷ 0x219 ∷ []
 unfolding wantingWord wordTo wishes cellOf wants tenAtMost withBitIf withBit
 four-cells = refl
-
-counters-rest : restingWord 3 2 (2 ∷ 1 ∷ 3 ∷ 240 ∷ 0 ∷ 0 ∷ 0 ∷ 0 ∷ 0 ∷ 0 ∷ []) ≡ 0x005
-unfolding restingWord wordTo rested runOf tenAtMost withBitIf withBit
-counters-rest = refl

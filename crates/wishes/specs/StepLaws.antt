@@ -1,19 +1,19 @@
--- Laws of the words of who wants and who rests, as the code makes them.
+-- Laws of the word of who wants, as the code makes it.
 -- Assumes nothing.
-use mathlib.Core.Path.{_≡_, refl, sym, ap}
-use mathlib.Core.Bool.{Bool, true, false, _&&_}
+use mathlib.Core.Path.{_≡_, sym, ap}
+use mathlib.Core.Bool.{Bool, true, false}
 use mathlib.Core.List.{List}
 use mathlib.Core.Logic.{_⊎_, ⊎-elim}
-use Prim.Native.Nat.{ℕ, zero, suc, _-_, _≤_}
+use Prim.Native.Nat.{ℕ, suc, _-_, _≤_}
 use native.Mathlib.Omega.{arith}
-use lib.Dec.{leb, ltb}
-use lib.ListN.{getD, replicate}
-use borrow.Author.Tests.{ltb-true, ltb-false, lt-leb}
+use lib.Dec.{ltb}
+use lib.ListN.{getD}
+use borrow.Author.Tests.{ltb-true, ltb-false}
 use Rattle.laws.specs.Tests.{by-test}
 use Rattle.units.specs.declared.MilliVolts.{MilliVolts}
 use Rattle.wishes.specs.Wants.{wants}
 use Rattle.wishes.specs.Word.{wordTo-none}
-use Rattle.wishes.specs.Steps.{tenAtMost, cellOf, runOf, wishes, wantingWord, rested, restingWord}
+use Rattle.wishes.specs.Steps.{tenAtMost, cellOf, wishes, wantingWord}
 
 pub ten-small : (n : ℕ) → tenAtMost n ≤ 10
 unfolding tenAtMost
@@ -32,17 +32,7 @@ wanting-none n charges raised floor difference lowest cells =
     (λ e. wordTo-none _ _ (λ k. rw e))
     (λ e. wordTo-none _ _ (λ k. rw e (by-test charges (λ t. rw t) (λ t. rw t))))
 
-zeros : (m i : ℕ) → _≡_ {A = ℕ} (getD (replicate m 0) i 0) 0
-zeros zero i = refl
-zeros (suc m) zero = refl
-zeros (suc m) (suc i) = zeros m i
-
--- Nobody rests where no run is left.
-pub none-rest : (n R : ℕ) → 1 ≤ R → restingWord n R (replicate 10 0) ≡ 0
-unfolding restingWord rested runOf
-none-rest n R h = wordTo-none _ _ (λ k. rw (zeros 10 (k - 1)) (lt-leb R 0 h))
-
--- ---- one turn of each loop
+-- ---- one turn of the loop
 
 after-one : (i : ℕ) → suc i - 1 ≡ i
 after-one i = omega arith
@@ -53,7 +43,3 @@ pub wishes-at : (charges raised : Bool) (floor difference lowest : ℕ) (cells :
 unfolding wishes cellOf
 wishes-at charges raised floor difference lowest cells i =
     ap (λ (x : ℕ). wants charges raised floor difference lowest (getD cells x (record { 0 = 0 }) .0)) (sym (after-one i))
-
-pub rested-at : (n R : ℕ) (runs : List ℕ) (i : ℕ) → ltb i n && leb R (getD runs i 0) ≡ leb (suc i) n && rested R runs (suc i)
-unfolding rested runOf
-rested-at n R runs i = rw (after-one i)

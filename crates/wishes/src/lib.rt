@@ -1,9 +1,7 @@
-// Who wants bleeding and who rests, each as a word: bit k - 1 for cell k.
+// Who wants bleeding: one cell's wish, and the wishes of a pack as a word, bit k - 1 for cell k.
 ghost use mathlib.Core.Path.{_≡_};
-ghost use mathlib.Core.Bool.{_&&_};
-ghost use lib.Dec.{leb, ltb};
 ghost use Rattle.wishes.specs.Wants.{isCharging, wants};
-ghost use Rattle.wishes.specs.Steps.{tenAtMost, wantingWord, restingWord};
+ghost use Rattle.wishes.specs.Steps.{tenAtMost, wantingWord};
 use laws::with_bit_if;
 use units::MilliVolts;
 
@@ -72,27 +70,6 @@ pub fn wanting(
     while i < last {
         let cell = cells[i as usize];
         let on = wants_one(charging, raised, floor, difference, lowest, cell);
-        word = with_bit_if(word, i, on);
-        i += 1;
-    }
-    word
-}
-
-// Cell `at` + 1 rests: it is a cell of the pack, and its run has reached the limit R.
-fn rests_one(n: u8, limit: u8, at: u8, run: u8) -> bool
-    ensures { λ r. ⌜ r ≡ ltb at n && leb limit run ⌝ }
-{
-    at < n && limit <= run
-}
-
-// The cells that rest, of cells 1 to n: those whose run has reached the limit R. All ten entries are asked.
-pub fn resting(n: u8, limit: u8, runs: [u8; 10]) -> u16
-    ensures { λ r. ⌜ r ≡ restingWord n limit runs ⌝ }
-{
-    let mut word: u16 = 0;
-    let mut i: u8 = 0;
-    while i < 10 {
-        let on = rests_one(n, limit, i, runs[i as usize]);
         word = with_bit_if(word, i, on);
         i += 1;
     }

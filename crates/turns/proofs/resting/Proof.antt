@@ -1,4 +1,4 @@
--- `wishes::resting` meets its contract. The loop's invariant: the word is that of the resting cells of the pack among the first i.
+-- `turns::resting` meets its contract. The loop's invariant: the word is that of the resting cells of the pack among the first i.
 -- Assumes nothing.
 use Prim.Native.Nat.{_≤_, _-_}
 use mathlib.Core.Path.{_≡_, refl, _∙_}
@@ -6,11 +6,12 @@ use mathlib.Core.Bool.{_&&_}
 use native.Mathlib.Omega.{arith}
 use lib.Dec.{leb}
 use borrow.Author.Needs.{needs}
 use Rattle.wishes.specs.Word.{wordTo, wordTo-next, wordTo-within}
-use Rattle.wishes.specs.Steps.{tenAtMost, rested, restingWord}
-use Rattle.wishes.specs.StepLaws.{rested-at}
-use Rattle.wishes.proofs.resting.Statement.{statement}
-use Rattle.wishes.proofs.resting.Tie as tie
+use Rattle.wishes.specs.Steps.{tenAtMost}
+use Rattle.turns.specs.Steps.{rested, restingWord}
+use Rattle.turns.specs.StepLaws.{rested-at}
+use Rattle.turns.proofs.resting.Statement.{statement}
+use Rattle.turns.proofs.resting.Tie as tie
 
 abbrev Inv-loop : tie.InvT-loop
 Inv-loop n limit runs word₀ i₀ word i = (i ≤ 10) × (word ≡ wordTo i (λ k. leb k n && rested limit runs k))

@@ -1,4 +1,4 @@
--- `bleed::next_runs` meets its contract. The loop's invariant: the first i counters are stepped, the others are as they were.
+-- `turns::next_runs` meets its contract. The loop's invariant: the first i counters are stepped, the others are as they were.
 -- Assumes nothing.
 use Prim.Native.Nat.{_≤_, _-_}
 use mathlib.Core.Path.{_≡_, refl, sym}
@@ -6,10 +6,10 @@ use native.Mathlib.Omega.{arith}
 use lib.ListN.{length}
 use borrow.Author.Needs.{needs}
 use Rattle.laws.specs.Each.{eachTo}
-use Rattle.bleed.specs.Steps.{nextRunsTo, nextRuns}
-use Rattle.bleed.specs.StepLaws.{runs-none, runs-next}
-use Rattle.bleed.proofs.next_runs.Statement.{statement}
-use Rattle.bleed.proofs.next_runs.Tie as tie
+use Rattle.turns.specs.Steps.{nextRunsTo, nextRuns}
+use Rattle.turns.specs.StepLaws.{runs-none, runs-next}
+use Rattle.turns.proofs.next_runs.Statement.{statement}
+use Rattle.turns.proofs.next_runs.Tie as tie
 
 abbrev Inv-loop : tie.InvT-loop
 Inv-loop bled next₀ i₀ next i = (i ≤ 10) × (next ≡ nextRunsTo bled i next₀)

@@ -1,9 +1,9 @@
--- `bleed::next_run` meets its contract. Assumes nothing.
+-- `turns::next_run` meets its contract. Assumes nothing.
 use borrow.Author.Needs.{needs}
 use borrow.Author.Tests.{lt-ltb, le-ltb}
-use Rattle.bleed.specs.Steps.{nextRun}
-use Rattle.bleed.proofs.next_run.Statement.{statement}
-use Rattle.bleed.proofs.next_run.Tie as tie
+use Rattle.turns.specs.Steps.{nextRun}
+use Rattle.turns.proofs.next_run.Statement.{statement}
+use Rattle.turns.proofs.next_run.Tie as tie
 
 add-result : tie.Need-add-result
 add-result c = search needs

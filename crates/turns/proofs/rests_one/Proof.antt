@@ -1,7 +1,7 @@
--- `wishes::rests_one` meets its contract. Assumes nothing.
+-- `turns::rests_one` meets its contract. Assumes nothing.
 use borrow.Author.Tests.{lt-ltb, le-ltb}
-use Rattle.wishes.proofs.rests_one.Statement.{statement}
-use Rattle.wishes.proofs.rests_one.Tie as tie
+use Rattle.turns.proofs.rests_one.Statement.{statement}
+use Rattle.turns.proofs.rests_one.Tie as tie
 
 returns : tie.Need-returns
 returns c = rw (lt-ltb _ _ (c .if1 .taken))

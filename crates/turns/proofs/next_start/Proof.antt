@@ -1,9 +1,9 @@
--- `bleed::next_start` meets its contract. Assumes nothing.
+-- `turns::next_start` meets its contract. Assumes nothing.
 use borrow.Author.Needs.{needs}
 use borrow.Author.Tests.{lt-ltb, le-ltb}
-use Rattle.bleed.specs.Steps.{nextCell}
-use Rattle.bleed.proofs.next_start.Statement.{statement}
-use Rattle.bleed.proofs.next_start.Tie as tie
+use Rattle.turns.specs.Steps.{nextCell}
+use Rattle.turns.proofs.next_start.Statement.{statement}
+use Rattle.turns.proofs.next_start.Tie as tie
 
 add-t5 : tie.Need-add-t5
 add-t5 c = search needs
