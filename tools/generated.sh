@@ -1,0 +1,37 @@
+# Shell functions for tests that hold a program against the independent one, docs/src/history.rs, on generated pages and logs.
+# They count with tools/count.sh, and build with tools/rustc.sh.
+
+history=target/history
+
+# Builds the independent program, once for all tests.
+build_history() {
+    mkdir -p target && build_rust "$history" history
+}
+
+# Every STEPth case from the FIRST on: removes the files of those whose outputs are the same.
+compare() { # PROGRAM FOLDER CASES FIRST STEP
+    i=$4
+    while [ "$i" -lt "$3" ]; do
+        one=$2/$i
+        "$history" "$1" "$one.page" "$one.log" >"$one.want" 2>"$one.said"
+        run_linked "target/bin/$1" "$one.page" "$one.log" >"$one.got" 2>>"$one.said"
+        if [ ! -s "$one.said" ] && cmp -s "$one.want" "$one.got"; then rm -f "$one".*; fi
+        i=$((i + $5))
+    done
+}
+
+# The numbers of the cases that are in a folder.
+cases_in() { # FOLDER
+    ls "$1" | sed -n 's/\.page$//p' | sort -n
+}
+
+# Makes the cases and compares them, half of them beside the other half: none may be left. A difference names the seed and the case.
+generated() { # WHAT PROGRAM FOLDER SEED CASES
+    rm -rf "$3"
+    "$history" cases "$4" "$5" "$3" && [ "$(cases_in "$3" | wc -l)" -eq "$5" ] || exit 1
+    compare "$2" "$3" "$5" 0 2 &
+    compare "$2" "$3" "$5" 1 2
+    wait
+    left=$(cases_in "$3" | head -n 5 | tr '\n' ' ')
+    if [ -n "$left" ]; then bad "$1 from seed $4: unlike at case $left"; else ok "$1 from seed $4"; fi
+}
