@@ -8,7 +8,6 @@ use lib.ListN.{length}
 use borrow.Fn.Kinds.{Dens, resT, endedOf}
 use contract.Lifetimes.{Lfts}
 use denote.Triple.Clauses.{AtExit}
-use Rattle.laws.specs.Unique.{Unique}
 use Rattle.writing.specs.Putting.{put-one}
 use Rattle.lines.specs.Carrying.{carriedOf, movedDown}
 use Rattle.lines.specs.Chunk.{chunk-done, chunk-used, chunk-written, chunk-state, chunk-memory}
@@ -17,10 +16,8 @@ use Rattle.pack.specs.declared.Pack.{Pack}
 use Rattle.log.specs.declared.Begun.{Begun}
 use Rattle.log.specs.declared.Chunk.{Chunk}
 use Rattle.log.specs.declared.Fed.{Fed}
-use Rattle.log.specs.Replay.{nextOf, answerOf, room, Chunked, Went, Opened, roomed}
-use Rattle.log.specs.Texts.{openingText}
-use Rattle.log.proofs.tell.Reads as tell
-use Rattle.log.proofs.tell.Kinds as tell-kinds
+use Rattle.log.specs.Replay.{nextOf, answerOf, Chunked, Went}
+use Rattle.answers.specs.Room.{room, opened-one}
 use Rattle.log.proofs.answer_chunk.Reads as answer-chunk
 use Rattle.log.proofs.answer_chunk.Kinds as answer-chunk-kinds
 use Rattle.log.proofs.feed.Reads as feed
@@ -29,9 +26,6 @@ use Rattle.log.proofs.last.Reads as last
 use Rattle.log.proofs.last.Kinds as last-kinds
 use Rattle.log.proofs.begin.Reads as begin
 use Rattle.log.proofs.begin.Kinds as begin-kinds
-
-tell-one : Unique 1 tell-kinds.ps tell-kinds.r tell.Post
-tell-one κs a x y s t p q = p .0 ∙ sym (q .0)
 
 -- ---- a chunk
 
@@ -93,14 +87,11 @@ begun-same : {v v' : Verdict} {k k' : Pack} {w w' : ℕ} → v ≡ v' → k ≡ 
     → _≡_ {A = Begun} (record { verdict = v; written = w; pack = k }) (record { verdict = v'; written = w'; pack = k' })
 begun-same a b c = cc
 
-opened-one : (d : List ℕ) (v v' : Verdict) (w w' : ℕ) (e e' : List ℕ) → v ≡ v' → Opened d v w e → Opened d v' w' e' → (w ≡ w') × (e ≡ e')
-opened-one d v v' w w' e e' h p q = put-one (p .put) (rw h (q .put))
-
 begin-one : (κs : Lfts 2) (a : Dens κs begin-kinds.ps) (x y : resT begin-kinds.r κs .Denot)
     (s t : AtExit (endedOf 2 begin-kinds.ps begin-kinds.r) κs)
     → begin.Post κs a x s → begin.Post κs a y t → (x ≡ y) × (s .1 .0 .now ≡ t .1 .0 .now)
 begin-one κs a x y s t p q =
     let v : x .verdict ≡ y .verdict = p .0 .0 ∙ sym (q .0 .0) in
     let k : x .pack ≡ y .pack = p .0 .1 ∙ sym (q .0 .1) in
-    let o = opened-one _ _ _ _ _ _ _ v (p .1 .0) (q .1 .0) in
+    let o = opened-one (p .1 .0) (rw (sym v) at (q .1 .0)) in
     (begun-same v k (o .0), o .1)

@@ -23,11 +23,11 @@ use Rattle.entries.specs.declared.Entry.{Entry}
 use Rattle.entries.specs.Entry.{entryOf}
 use Rattle.lines.specs.Lines.{linesOf}
 use Rattle.lines.specs.Output as any
-use Rattle.log.specs.declared.Told.{Told}
-use Rattle.log.specs.declared.Told.the-variants.{Decided, Refused}
-use Rattle.log.specs.declared.Turned.{Turned}
-use Rattle.log.specs.Told.{toldBy, answeredAs, turnedBy, turnOf}
-use Rattle.log.specs.Texts.{textOf, headerText}
+use Rattle.shown.specs.declared.Told.{Told}
+use Rattle.shown.specs.declared.Told.the-variants.{Decided, Refused}
+use Rattle.telling.specs.declared.Turned.{Turned}
+use Rattle.telling.specs.Turns.{toldBy, answeredAs, turnedBy, turnOf}
+use Rattle.answers.specs.Texts.{textOf, headerText}
 use Rattle.log.specs.Replay.{nextOf, answerOf, replayed}
 
 -- The events of the lines so far, the latest first, and those of one line more: a malformed line is none.

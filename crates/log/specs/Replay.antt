@@ -6,15 +6,13 @@ use mathlib.Core.Bool.{Bool, true, false, cond}
 use mathlib.Core.List.{List, [], _∷_, _++_, append-nil}
 use native.Mathlib.Nat.{le-refl}
 use native.Mathlib.Omega.{arith}
-use lib.Dec.{ltb, eqb}
+use lib.Dec.{eqb}
 use lib.ListN.{length, take, drop, length-append, drop-of-length-le}
 use lib.Seq.{take-length}
-use borrow.Author.Tests.{le-ltb, lt-ltb, eqb-true, eqb-false, ne-eqb}
+use borrow.Author.Tests.{le-ltb, eqb-true, eqb-false, ne-eqb}
 use Rattle.laws.specs.Tests.{by-test}
 use Rattle.text.specs.Finding.{lacks}
 use Rattle.writing.specs.Placing.{Put}
-use Rattle.writing.specs.Putting.{put-made, put-place, put-full-place}
-use Rattle.laws.specs.Tests.{by-order}
 use Rattle.lines.specs.Lines.{plain, linesOf}
 use Rattle.lines.specs.Carrying.{carriedOf, movedDown, carried-few}
 use Rattle.lines.specs.Walking.{Ended, whole, whole-none, whole-line}
@@ -25,10 +23,11 @@ use Rattle.page.specs.declared.Verdict.the-variants as verdict
 use Rattle.pack.specs.declared.Pack.{Pack}
 use Rattle.pack.specs.declared.Answered.{Answered}
 use Rattle.pack.specs.Kept.{afterLoad}
-use Rattle.log.specs.Told.{turnOf, turned, turn-overlong}
-use Rattle.log.specs.Texts.{textOf, openingText, headerText}
-use Rattle.log.specs.declared.Told.the-variants.{Refused}
-use Rattle.log.specs.declared.Turned.{Turned}
+use Rattle.telling.specs.Turns.{turnOf, turned, turn-overlong}
+use Rattle.answers.specs.Texts.{textOf, openingText, headerText}
+use Rattle.answers.specs.Room.{room, roomed, roomed-is, nothing-put}
+use Rattle.shown.specs.declared.Told.the-variants.{Refused}
+use Rattle.telling.specs.declared.Turned.{Turned}
 use Rattle.log.specs.declared.Fed.{Fed}
 
 -- The pack behind a line, and the text that the line is answered with.
@@ -54,14 +53,6 @@ replayed page log =
 
 -- ---- a log that is cut anywhere
 
--- The bytes of the longest answer.
-abbrev pub room : ℕ
-room = 35
-
--- What is written into a buffer of size bytes: nothing where the longest answer has no room.
-unfoldable pub roomed : ℕ → List ℕ → List ℕ
-roomed size s = cond (ltb size room) [] s
-
 -- What the chunk function answers (crate lines, Chunk).
 abbrev pub Chunked : List ℕ → List ℕ → Pack → Bool → ℕ → ℕ → Pack → List ℕ → Type 0
 Chunked = cut.Chunked nextOf answerOf room
@@ -83,11 +74,6 @@ pub record Went (buf d : List ℕ) (p : Pack) (r : Fed) (buf′ e : List ℕ) : 
 -- What the last line lacks, where held bytes are left at the end of the log: its newline. Nothing is no line.
 unfoldable pub closing : ℕ → List ℕ
 closing held = cond (eqb held 0) [] (10 ∷ [])
-
--- What is written before the lines.
-pub record Opened (d : List ℕ) (v : Verdict) (written : ℕ) (e : List ℕ) : Type 0 where
-  pub put : Put d 0 (roomed (length d) (openingText v)) written e
-  pub fits : written ≤ length d
 
 -- ---- the laws of the run
 
@@ -175,32 +161,10 @@ replayed-refused page log number word a = rw a
 
 -- ---- what the code needs of them
 
-nothing-put : (d : List ℕ) → Put d 0 [] 0 d
-nothing-put d = put-made d 0 [] d (omega arith) refl
-
--- No room.
-pub roomed-short : (d s : List ℕ) → length d < room → Put d 0 (roomed (length d) s) 0 d
-unfolding roomed
-roomed-short d s h = rw (lt-ltb (length d) room h) (nothing-put d)
-
-pub roomed-put : (d s : List ℕ) (r : ℕ) (e : List ℕ) → room ≤ length d → Put d 0 s r e → Put d 0 (roomed (length d) s) r e
-unfolding roomed
-roomed-put d s r e h p = rw (le-ltb (length d) room h) p
-
--- What was put at a place of a buffer ends inside.
-pub put-within : {d : List ℕ} {at : ℕ} {s : List ℕ} {r : ℕ} {e : List ℕ} → Put d at s r e → at ≤ length d → r ≤ length d
-put-within {d} {at} {s} {r} {e} p l =
-    by-order (length d) (at + length s)
-    (λ h. let z = put-full-place p h in omega arith)
-    (λ h. let z = put-place p h in omega arith)
-
-pub opened : {d : List ℕ} {v : Verdict} {r : ℕ} {e : List ℕ} → Put d 0 (roomed (length d) (openingText v)) r e → Opened d v r e
-opened p = record { put = p; fits = put-within p (omega arith) }
-
 -- The newline of the last line was put.
 pub closed-none : (buf : List ℕ) (held : ℕ) → held ≡ 0 → Put buf held (closing held) 0 buf
 unfolding closing
-closed-none buf held e = rw e (nothing-put buf)
+closed-none buf held e = rw e (nothing-put buf 0)
 
 pub closed-put : (buf : List ℕ) (held r : ℕ) (e : List ℕ) → (held ≡ 0 → ⊥) → Put buf held (10 ∷ []) r e → Put buf held (closing held) r e
 unfolding closing
@@ -222,8 +186,9 @@ went buf d p r buf′ e c h m =
 -- One answer more in a chunk.
 module _ (text d : List ℕ) (s : Pack) (at w : ℕ) (k : Pack) (o : List ℕ) (g : cut.Going nextOf answerOf room text d s at w k o) where
   pub chunk-on : (end on : ℕ) → Ended text at end on → w + room ≤ length o → (t : Turned) → t ≡ turnOf k (take (end - at) (drop at text))
-      → (r : ℕ) (e : List ℕ) → length (textOf (t .told)) ≤ room → Put o w (textOf (t .told)) r e
+      → (r : ℕ) (e : List ℕ) → length (roomed (length o) w (textOf (t .told))) ≤ room → Put o w (roomed (length o) w (textOf (t .told))) r e
       → cut.Going nextOf answerOf room text d s on r (t .pack) e
   chunk-on end on n h t et r e few p =
-      cut.going-on nextOf answerOf room text d s at w k o g end on n h (textOf (t .told)) (t .pack) r e few
-      (ap (λ (q : Turned). textOf (q .told)) et) (ap (λ (q : Turned). q .pack) et) p
+      let i = roomed-is (length o) w (textOf (t .told)) h in
+      cut.going-on nextOf answerOf room text d s at w k o g end on n h (textOf (t .told)) (t .pack) r e (rw i at few)
+      (ap (λ (q : Turned). textOf (q .told)) et) (ap (λ (q : Turned). q .pack) et) (rw i at p)

@@ -21,6 +21,12 @@ pub struct Decision {
     pub mode: u16,
 }
 
+// What a line is answered with, before it is text: the five fields of the pack's decision, or the number of the refusal.
+pub enum Told {
+    Decided(Decision),
+    Refused(u8),
+}
+
 // Whether a switch is on: 0 is charge, 1 is discharge.
 fn switch_on(p: Pack, switch: u8) -> bool
     ensures { λ r. ⌜ r ≡ switchOn p switch ⌝ }

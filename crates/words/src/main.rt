@@ -141,7 +141,7 @@ fn after_last(p: Pack, held: &[u8]) -> Pack
     if held.len() == 0 {
         return p;
     }
-    let t = log::tell(p, held);
+    let t = telling::tell(p, held);
     let k = t.pack;
     k
 }

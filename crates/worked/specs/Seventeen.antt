@@ -18,9 +18,9 @@ use Rattle.entries.specs.declared.Kind.{Kind}
 use Rattle.entries.specs.declared.Kind.the-variants.{Offer, Command, Malformed}
 use Rattle.entries.specs.declared.Entry.{Entry}
 use Rattle.entries.specs.Entry.{entryOf}
-use Rattle.log.specs.declared.Told.{Told}
-use Rattle.log.specs.declared.Told.the-variants.{Decided, Refused}
-use Rattle.log.specs.Told.{toldBy, answeredAs, turnedBy, turnOf}
+use Rattle.shown.specs.declared.Told.{Told}
+use Rattle.shown.specs.declared.Told.the-variants.{Decided, Refused}
+use Rattle.telling.specs.Turns.{toldBy, answeredAs, turnedBy, turnOf}
 
 -- Whether a line was refused with 17.
 abbrev pub isSeventeen : Told → Bool

@@ -5,7 +5,8 @@ use lib.ListN.{length}
 use Rattle.lines.specs.Walking.{next-ends}
 use Rattle.lines.specs.Chunk.{Going, going-start, going-done, going-full}
 use Rattle.pack.specs.Kept.{Kept}
-use Rattle.log.specs.Replay.{nextOf, answerOf, room, chunk-on}
+use Rattle.log.specs.Replay.{nextOf, answerOf, chunk-on}
+use Rattle.answers.specs.Room.{room}
 use Rattle.log.proofs.Ends.{no-end}
 use borrow.Author.Needs.{needs}
 use native.Mathlib.Omega.{arith}

@@ -1,5 +1,6 @@
 -- `log::last` meets its contract. Assumes nothing.
-use Rattle.log.specs.Replay.{closed-none, closed-put, put-within}
+use Rattle.log.specs.Replay.{closed-none, closed-put}
+use Rattle.answers.specs.Room.{put-within}
 use native.Mathlib.Omega.{arith}
 use borrow.Author.Needs.{needs}
 use Rattle.log.proofs.last.Statement.{statement}
