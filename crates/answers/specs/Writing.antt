@@ -1,7 +1,7 @@
 -- The texts as the code puts them together, and how long they can be.
 -- Assumes nothing.
 use Prim.Native.Nat.{ℕ, _+_, _<_, _≤_}
-use mathlib.Core.Path.{_≡_, refl, sym, ap, ap₂, _∙_}
+use mathlib.Core.Path.{_≡_, refl}
 use mathlib.Core.List.{List, [], _∷_, _++_, append-assoc}
 use native.Mathlib.Omega.{arith}
 use lib.ListN.{length, length-append}
@@ -10,7 +10,7 @@ use Rattle.text.specs.Spelling.{decimal-length}
 use Rattle.writing.specs.Placing.{Put}
 use Rattle.writing.specs.Putting.{put-place, put-length, put-then}
 use Rattle.shown.specs.declared.Decision.{Decision}
-use Rattle.answers.specs.Texts.{lineOf, fieldText, decisionText, refusedText, pageText, headerText}
+use Rattle.answers.specs.Texts.{lineOf, fieldText, decisionText, refusedText, pageText}
 
 -- The first three fields of a decision, and the last two.
 unfoldable pub frontText : ℕ → ℕ → ℕ → List ℕ

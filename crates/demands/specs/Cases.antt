@@ -1,8 +1,8 @@
 -- Computed cases: document 01's replay example as decisions, the limits of a sample, counts, commands, and the starred case of three
 -- cells as real voltages, through load, sample and command.
 -- Assumes nothing.
-use mathlib.Core.Path.{_≡_, refl, ap, _∙_}
-use mathlib.Core.Bool.{Bool, true, false, cond}
+use mathlib.Core.Path.{_≡_, refl, ap}
+use mathlib.Core.Bool.{true, cond}
 use mathlib.Core.List.{List, [], _∷_}
 use Prim.Native.Nat.{ℕ, zero, suc}
 use lib.ListN.{length, drop}
@@ -39,7 +39,6 @@ use Rattle.settings.specs.Settings.{inDegrees, tripLevel, releaseLevel, limitsA
 use Rattle.settings.specs.Cases.{workedRules, worked, worked-loaded}
 use Rattle.pack.specs.declared.Pack.{Pack}
 use Rattle.pack.specs.declared.Answered.{Answered}
-use Rattle.shown.specs.declared.Decision.{Decision}
 use Rattle.pack.specs.Events.{Event, offer, command, accepts}
 use Rattle.pack.specs.State.{wishAt, wishesOf, bledAfter, freshPack, freshBalance, nextTick, nextBalance, wantWith, acceptedPack, offered, withCommand, commanded}
 use Rattle.pack.specs.Kept.{pageOf}

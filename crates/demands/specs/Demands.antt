@@ -2,10 +2,10 @@
 -- have the latest first. The page judge's part of the first demand is in crate page (Exactly, Swapped).
 -- Assumes nothing.
 use mathlib.Core.Path.{_≡_, refl, ap, _∙_}
-use mathlib.Core.Bool.{true, false, not}
+use mathlib.Core.Bool.{true, false}
 use mathlib.Core.List.{List, [], _∷_}
 use mathlib.Core.Logic.{_↔_}
-use Prim.Native.Nat.{ℕ, zero, suc, _+_, _-_, _≤_, _<_}
+use Prim.Native.Nat.{ℕ, zero, suc, _-_, _≤_, _<_}
 use native.Mathlib.Omega.{arith}
 use lib.Count.{ones, onesIn}
 use lib.ListN.{drop, getD}
@@ -31,7 +31,7 @@ use Rattle.bleed.specs.Demand.{fair-anywhere, never-over-R}
 use Rattle.bleed.specs.Balance.{bled-few, bled-apart}
 use Rattle.pack.specs.declared.Pack.{Pack}
 use Rattle.shown.specs.declared.Decision.{Decision}
-use Rattle.pack.specs.Events.{Event, command}
+use Rattle.pack.specs.Events.{Event}
 use Rattle.pack.specs.State.{wishesOf, bledAfter, offered, commanded}
 use Rattle.pack.specs.Kept.{pageOf, pastAfter, stateAfter}
 use Rattle.shown.specs.Shown.{switchAfter, decisionAfter, switchOn, decisionOf}

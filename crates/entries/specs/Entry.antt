@@ -1,13 +1,12 @@
 -- What a line of the log says, by its bytes: document 01, "The replay program". A line without its newline is a list of bytes.
 -- Assumes nothing.
-use Prim.Native.Nat.{ℕ, zero, suc}
-use mathlib.Core.Bool.{Bool, true, false, cond}
+use Prim.Native.Nat.{ℕ, suc}
+use mathlib.Core.Bool.{Bool, false, cond}
 use mathlib.Core.List.{List, [], _∷_}
 use lib.Dec.{ltb, eqb}
 use lib.IntN.{ℤ, pos}
 use lib.ListN.{length, set, replicate}
 use Rattle.units.specs.declared.MilliVolts.{MilliVolts}
-use Rattle.units.specs.declared.DeciKelvin.{DeciKelvin}
 use Rattle.quantities.specs.declared.Sample.{Sample}
 use Rattle.quantities.specs.Cells.{noVolts}
 use Rattle.numbers.specs.declared.Number.{Number}

@@ -11,7 +11,7 @@ use native.Mathlib.Omega.{arith}
 use lib.Dec.{ltb, eqb, lit≤}
 use lib.IntN.{ℤ, pos, negsuc}
 use lib.ListN.{length, set, getD, replicate}
-use borrow.Author.Tests.{lt-ltb, le-ltb, ltb-true, ltb-false, eqb-true, leb-true, eq-eqb, ne-eqb}
+use borrow.Author.Tests.{lt-ltb, le-ltb, eqb-true, leb-true, ne-eqb}
 use Rattle.laws.specs.Tests.{by-test, clash}
 use Rattle.units.specs.declared.MilliVolts.{MilliVolts}
 use Rattle.quantities.specs.Cells.{noVolts}
@@ -21,7 +21,6 @@ use Rattle.numbers.specs.declared.Signed.{Signed}
 use Rattle.numbers.specs.declared.Signed.the-variants as signed
 use Rattle.text.specs.Finding.{lacks}
 use Rattle.text.specs.Fields.{longer, fieldsOf, fieldAt}
-use Rattle.text.specs.Decimal.{decimal}
 use Rattle.numbers.specs.Numbers.{numberOf, signedOf, signedText}
 use Rattle.text.specs.Spelling.{decimal-length, decimal-lacks}
 use Rattle.numbers.specs.Canonical.{InRange, number-text, signed-text}

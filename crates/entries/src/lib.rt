@@ -1,6 +1,5 @@
 // Entries: what a line of the log says, as a value. Each field is read as a part of the line.
 ghost use mathlib.Core.Path.{_≡_};
-ghost use mathlib.Core.List.{[]};
 ghost use Prim.Native.Nat.{_+_, _≤_};
 ghost use lib.ListN.{length, getD};
 ghost use Rattle.entries.specs.Entry.{malformed, offer, commandOf, sampleOf, entryOf};

@@ -1,14 +1,14 @@
 -- Single bits of a word: bit i of w is w / 2^i modulo 2. A word is built from shifted single bits, and a bit is tested
 -- by shift and remainder.
 -- Assumes nothing.
-use mathlib.Core.Path.{_≡_, refl, sym, ap, _∙_}
+use mathlib.Core.Path.{_≡_, refl, ap, _∙_}
 use mathlib.Core.Bool.{Bool, true, false, cond}
 use mathlib.Core.Logic.{_⊎_, inl, inr, ⊎-elim}
-use Prim.Native.Nat.{ℕ, zero, suc, _+_, _-_, _*_, _/_, _%_, _^_, _≤_, _<_, zero-le}
-use native.Mathlib.Nat.{le-trans, le-of-eq, pow-suc, mod-lt, mod-eq-of-lt, div-eq-of-lt, div-div-eq-div-mul, lt-of-lt-of-le, zero-add, add-zero}
+use Prim.Native.Nat.{ℕ, zero, suc, _+_, _-_, _*_, _/_, _%_, _^_, _≤_, _<_}
+use native.Mathlib.Nat.{pow-suc, mod-lt, mod-eq-of-lt, div-eq-of-lt, div-div-eq-div-mul, lt-of-lt-of-le}
 use native.Mathlib.Omega.{arith}
 use lib.Dec.{eqb, lit<}
-use lib.Bits.{bitOr, bitAnd, or-shr, or-mod, or-add-and, or-zero-r, or-zero-l}
+use lib.Bits.{bitOr, or-shr, or-mod, or-add-and, or-zero-r}
 use lib.Count.{ones, onesIn, ones-step, ones-cat}
 use lib.Pow.{pow-pos, pow-mono, pow-lt, pow-add, shl-shr}
 use borrow.Author.Tests.{eqb-false}

@@ -8,24 +8,17 @@ use lib.ListN.{length}
 use borrow.Fn.Kinds.{Dens, resT, endedOf}
 use contract.Lifetimes.{Lfts}
 use denote.Triple.Clauses.{AtExit}
-use Rattle.writing.specs.Putting.{put-one}
 use Rattle.lines.specs.Carrying.{carriedOf, movedDown}
 use Rattle.lines.specs.Chunk.{chunk-done, chunk-used, chunk-written, chunk-state, chunk-memory}
-use Rattle.page.specs.declared.Verdict.{Verdict}
 use Rattle.pack.specs.declared.Pack.{Pack}
-use Rattle.log.specs.declared.Begun.{Begun}
 use Rattle.log.specs.declared.Chunk.{Chunk}
 use Rattle.log.specs.declared.Fed.{Fed}
 use Rattle.log.specs.Replay.{nextOf, answerOf, Chunked, Went}
-use Rattle.answers.specs.Room.{room, opened-one}
+use Rattle.answers.specs.Room.{room}
 use Rattle.log.proofs.answer_chunk.Reads as answer-chunk
 use Rattle.log.proofs.answer_chunk.Kinds as answer-chunk-kinds
 use Rattle.log.proofs.feed.Reads as feed
 use Rattle.log.proofs.feed.Kinds as feed-kinds
-use Rattle.log.proofs.last.Reads as last
-use Rattle.log.proofs.last.Kinds as last-kinds
-use Rattle.log.proofs.begin.Reads as begin
-use Rattle.log.proofs.begin.Kinds as begin-kinds
 
 -- ---- a chunk
 
@@ -75,23 +68,3 @@ feed-one : (κs : Lfts 2) (a : Dens κs feed-kinds.ps) (x y : resT feed-kinds.r 
     (s t : AtExit (endedOf 2 feed-kinds.ps feed-kinds.r) κs)
     → feed.Post κs a x s → feed.Post κs a y t → (x ≡ y) × (s .1 .0 .now ≡ t .1 .0 .now) × (s .1 .1 .0 .now ≡ t .1 .1 .0 .now)
 feed-one κs a x y s t p q = fed-one _ _ _ x y _ _ _ _ (p .0) (q .0)
-
--- ---- the start and the end
-
-last-one : (κs : Lfts 1) (a : Dens κs last-kinds.ps) (x y : resT last-kinds.r κs .Denot)
-    (s t : AtExit (endedOf 1 last-kinds.ps last-kinds.r) κs)
-    → last.Post κs a x s → last.Post κs a y t → (x ≡ y) × (s .0 .now ≡ t .0 .now)
-last-one κs a x y s t p q = put-one (p .0) (q .0)
-
-begun-same : {v v' : Verdict} {k k' : Pack} {w w' : ℕ} → v ≡ v' → k ≡ k' → w ≡ w'
-    → _≡_ {A = Begun} (record { verdict = v; written = w; pack = k }) (record { verdict = v'; written = w'; pack = k' })
-begun-same a b c = cc
-
-begin-one : (κs : Lfts 2) (a : Dens κs begin-kinds.ps) (x y : resT begin-kinds.r κs .Denot)
-    (s t : AtExit (endedOf 2 begin-kinds.ps begin-kinds.r) κs)
-    → begin.Post κs a x s → begin.Post κs a y t → (x ≡ y) × (s .1 .0 .now ≡ t .1 .0 .now)
-begin-one κs a x y s t p q =
-    let v : x .verdict ≡ y .verdict = p .0 .0 ∙ sym (q .0 .0) in
-    let k : x .pack ≡ y .pack = p .0 .1 ∙ sym (q .0 .1) in
-    let o = opened-one (p .1 .0) (rw (sym v) at (q .1 .0)) in
-    (begun-same v k (o .0), o .1)

@@ -2,19 +2,16 @@
 -- lines before it.
 -- Assumes nothing.
 use Prim.Native.Nat.{ℕ}
-use mathlib.Core.Path.{_≡_, refl, sym, ap, ap₂, _∙_}
-use mathlib.Core.Bool.{Bool, true, false, cond}
+use mathlib.Core.Path.{_≡_, refl, ap, ap₂, _∙_}
 use mathlib.Core.List.{List, [], _∷_, _++_}
 use Rattle.page.specs.declared.Verdict.{Verdict}
 use Rattle.page.specs.declared.Verdict.the-variants as verdict
 use Rattle.samples.specs.Samples.{sampleVerdict, commandVerdict}
-use Rattle.settings.specs.declared.Settings.{Settings}
 use Rattle.pack.specs.declared.Pack.{Pack}
-use Rattle.pack.specs.declared.Answered.{Answered}
 use Rattle.pack.specs.Events.{Event, offer, command}
 use Rattle.pack.specs.State.{stateOf, offered, commanded}
 use Rattle.pack.specs.Kept.{pageOf, pastAfter, stateAfter, afterLoad}
-use Rattle.shown.specs.Shown.{decisionAfter, decisionOf}
+use Rattle.shown.specs.Shown.{decisionAfter}
 use Rattle.pack.specs.After.{after, after-is}
 use Rattle.shown.specs.Decided.{decided}
 use Rattle.entries.specs.declared.Kind.{Kind}
@@ -25,7 +22,6 @@ use Rattle.lines.specs.Lines.{linesOf}
 use Rattle.lines.specs.Output as any
 use Rattle.shown.specs.declared.Told.{Told}
 use Rattle.shown.specs.declared.Told.the-variants.{Decided, Refused}
-use Rattle.telling.specs.declared.Turned.{Turned}
 use Rattle.telling.specs.Turns.{toldBy, answeredAs, turnedBy, turnOf}
 use Rattle.answers.specs.Texts.{textOf, headerText}
 use Rattle.log.specs.Replay.{nextOf, answerOf, replayed}

@@ -1,8 +1,8 @@
 -- THE REPLAY: what it writes for a page and a log, bytes to bytes; and the same for a log that is cut anywhere.
 -- Assumes nothing.
-use Prim.Native.Nat.{ℕ, _+_, _-_, _<_, _≤_}
-use mathlib.Core.Path.{_≡_, refl, sym, ap, ap₂, _∙_}
-use mathlib.Core.Bool.{Bool, true, false, cond}
+use Prim.Native.Nat.{ℕ, _+_, _-_, _≤_}
+use mathlib.Core.Path.{_≡_, refl, sym, ap, _∙_}
+use mathlib.Core.Bool.{Bool, true, cond}
 use mathlib.Core.List.{List, [], _∷_, _++_, append-nil}
 use native.Mathlib.Nat.{le-refl}
 use native.Mathlib.Omega.{arith}
@@ -21,7 +21,6 @@ use Rattle.lines.specs.Chunk as cut
 use Rattle.page.specs.declared.Verdict.{Verdict}
 use Rattle.page.specs.declared.Verdict.the-variants as verdict
 use Rattle.pack.specs.declared.Pack.{Pack}
-use Rattle.pack.specs.declared.Answered.{Answered}
 use Rattle.pack.specs.Kept.{afterLoad}
 use Rattle.telling.specs.Turns.{turnOf, turned, turn-overlong}
 use Rattle.answers.specs.Texts.{textOf, openingText, headerText}

@@ -1,15 +1,13 @@
 -- The steps of the readers, in the code's terms.
-use Prim.Native.Nat.{ℕ, suc, _+_, _*_, _-_, _<_, _≤_}
-use mathlib.Core.Path.{_≡_, refl}
-use mathlib.Core.List.{List, [], _∷_}
+use Prim.Native.Nat.{ℕ, _+_, _*_, _-_, _<_, _≤_}
+use mathlib.Core.Path.{_≡_}
+use mathlib.Core.List.{List}
 use native.Mathlib.Numerals.{add-one}
-use native.Mathlib.Omega.{arith}
-use lib.ListN.{length, take, drop, getD, drop-of-length-le}
-use lib.Seq.{drop-cons, take-length}
-use borrow.Author.Tests.{lt-ltb, le-ltb, eq-eqb, ne-eqb}
+use lib.ListN.{length, drop, getD, drop-of-length-le}
+use lib.Seq.{drop-cons}
+use borrow.Author.Tests.{lt-ltb, le-ltb}
 use Rattle.numbers.specs.declared.Number.the-variants.{Value, Malformed}
-use Rattle.numbers.specs.Numbers.{digitsTo, numberTo, aboveOf, belowOf, signedOf}
-use Rattle.numbers.specs.declared.Signed.the-variants as signed
+use Rattle.numbers.specs.Numbers.{digitsTo}
 
 -- the digit at i, behind digits that stand for v
 module _ (most : ℕ) (f : List ℕ) (v i : ℕ) where

@@ -1,5 +1,5 @@
 -- A number that may have a minus, read in two steps: where its digits start, and then its sign.
-use Prim.Native.Nat.{ℕ, suc, _+_, _<_, _≤_}
+use Prim.Native.Nat.{ℕ, suc, _+_, _≤_}
 use mathlib.Core.Path.{_≡_, refl, sym, ap, _∙_}
 use mathlib.Core.Bool.{Bool, true, false, cond, _&&_}
 use mathlib.Core.List.{List, [], _∷_}
@@ -7,11 +7,10 @@ use native.Mathlib.Omega.{arith}
 use lib.Dec.{ltb, eqb}
 use lib.ListN.{length, drop, getD, drop-of-length-le}
 use lib.Seq.{drop-cons}
-use borrow.Author.Tests.{lt-ltb, le-ltb, ltb-true, ltb-false, eq-eqb, ne-eqb, eqb-true}
+use borrow.Author.Tests.{lt-ltb, le-ltb, ltb-true, eqb-true}
 use Rattle.laws.specs.Tests.{by-test, by-order, clash, and-left, and-right}
 use Rattle.text.specs.Finding.{before}
 use Rattle.text.specs.Fields.{fieldAt}
-use Rattle.text.specs.Decimal.{decimal}
 use Rattle.numbers.specs.Numbers.{numberTo, numberOf, aboveOf, belowOf, signedOf}
 use Rattle.numbers.specs.Canonical.{number-text, number-read, number-malformed, decimal-one}
 use Rattle.numbers.specs.declared.Number.{Number}

@@ -1,9 +1,9 @@
 -- Each call leads from the state after some events to the state after one event more, and hands on that it stands for them.
 -- Assumes nothing.
 use mathlib.Core.Path.{_≡_, refl, sym, ap, _∙_}
-use mathlib.Core.Bool.{Bool, true, false, cond}
+use mathlib.Core.Bool.{true, false}
 use mathlib.Core.List.{List, [], _∷_}
-use Prim.Native.Nat.{ℕ, zero, suc, _%_, _≤_, _<_}
+use Prim.Native.Nat.{ℕ, zero, suc, _%_, _<_}
 use native.Mathlib.Omega.{arith}
 use native.Mathlib.Nat.{zero-lt-suc, mod-eq-of-lt}
 use Rattle.laws.specs.Tests.{by-test, clash}
@@ -12,13 +12,12 @@ use Rattle.page.specs.declared.Verdict.{Verdict}
 use Rattle.page.specs.declared.Verdict.the-variants.{Accepted, Refused}
 use Rattle.quantities.specs.declared.Sample.{Sample}
 use Rattle.samples.specs.Samples.{sampleVerdict, commandVerdict, trimmed, sample-none, command-most}
-use Rattle.settings.specs.declared.Settings.{Settings}
 use Rattle.settings.specs.declared.Loaded.{Loaded}
 use Rattle.settings.specs.Settings.{settingsOf, noSettings, loadedOf, loadedWith}
 use Rattle.settings.specs.Good.{Good, accepted-good}
 use Rattle.pack.specs.declared.Pack.{Pack}
 use Rattle.pack.specs.declared.Answered.{Answered}
-use Rattle.pack.specs.Events.{Event, offer, command, Past, past, accepts, withEvent, pastOf}
+use Rattle.pack.specs.Events.{Event, offer, command, accepts, withEvent, pastOf}
 use Rattle.pack.specs.State.{stateOf, freshPack, acceptedPack, Ready, answered, offered, withCommand, commanded}
 use Rattle.pack.specs.Kept.{pageOf, pastAfter, stateAfter, Kept, afterLoad}
 use Rattle.pack.specs.Steps.{state-next, state-ready, state-fresh}

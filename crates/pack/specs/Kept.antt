@@ -1,11 +1,9 @@
 -- What a call may take as given of a pack state, and nothing else: it is what a load or a later call handed back.
 -- Assumes nothing.
 use mathlib.Core.Path.{_≡_}
-use mathlib.Core.List.{List, [], _∷_}
+use mathlib.Core.List.{List}
 use Prim.Native.Nat.{ℕ}
-use Rattle.page.specs.declared.Verdict.{Verdict}
 use Rattle.settings.specs.declared.Settings.{Settings}
-use Rattle.settings.specs.declared.Loaded.{Loaded}
 use Rattle.settings.specs.Settings.{loadedOf}
 use Rattle.pack.specs.declared.Pack.{Pack}
 use Rattle.pack.specs.declared.Answered.{Answered}

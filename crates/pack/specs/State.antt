@@ -3,21 +3,17 @@
 use mathlib.Core.Bool.{Bool, true, false, cond}
 use mathlib.Core.List.{List, [], _∷_}
 use mathlib.Core.Path.{_≡_}
-use Prim.Native.Nat.{ℕ, zero, suc, _+_, _-_, _%_}
+use Prim.Native.Nat.{ℕ, _+_, _-_, _%_}
 use lib.Dec.{ltb}
-use lib.IntN.{ℤ, pos}
+use lib.IntN.{pos}
 use lib.ListN.{length, replicate}
-use Rattle.units.specs.declared.MilliVolts.{MilliVolts}
-use Rattle.units.specs.declared.DeciKelvin.{DeciKelvin}
-use Rattle.units.specs.declared.CellNo.{CellNo}
 use Rattle.quantities.specs.declared.Sample.{Sample}
 use Rattle.guard.specs.declared.Protection.{Protection}
-use Rattle.quantities.specs.Cells.{noVolts, extremesOf, lookedAt, lowest}
+use Rattle.quantities.specs.Cells.{noVolts, extremesOf, lowest}
 use Rattle.quantities.specs.declared.Extremes.{Extremes}
 use Rattle.guard.specs.Steps.{protectionsOf, stepAll, AllWithin}
 use Rattle.raised.specs.Words.{someRaised, anyRaised}
 use Rattle.page.specs.declared.Verdict.{Verdict}
-use Rattle.page.specs.declared.Verdict.the-variants.{Accepted, Refused}
 use Rattle.settings.specs.declared.Rules.{Rules}
 use Rattle.settings.specs.declared.Settings.{Settings}
 use Rattle.wishes.specs.Wants.{isCharging}
@@ -31,7 +27,7 @@ use Rattle.pack.specs.declared.Balance.{Balance}
 use Rattle.pack.specs.declared.Pack.{Pack}
 use Rattle.pack.specs.declared.Answered.{Answered}
 use Rattle.samples.specs.Samples.{sampleVerdict, commandVerdict, trimmed}
-use Rattle.pack.specs.Events.{Past, past, accepts}
+use Rattle.pack.specs.Events.{Past, accepts}
 
 -- ---- from the page and the history
 

@@ -1,11 +1,11 @@
 -- One step on from the state that a past stands for is the state of the longer past: the second demand, call by call.
 -- Assumes nothing.
 use mathlib.Core.Path.{_≡_, refl, sym, ap, ap₂, _∙_}
-use mathlib.Core.Bool.{Bool, true, false, cond}
+use mathlib.Core.Bool.{Bool, true}
 use mathlib.Core.List.{List, [], _∷_}
-use Prim.Native.Nat.{ℕ, zero, suc, _+_, _-_, _%_, _≤_, _<_}
+use Prim.Native.Nat.{ℕ, zero, suc, _-_, _%_, _≤_, _<_}
 use native.Mathlib.Omega.{arith}
-use native.Mathlib.Nat.{mod-eq-of-lt, not-suc-le-zero, le-of-suc-le-suc}
+use native.Mathlib.Nat.{mod-eq-of-lt}
 use lib.Dec.{ltb}
 use lib.ListN.{length}
 use borrow.Author.Tests.{ltb-true, ltb-false}
@@ -14,17 +14,14 @@ use Rattle.laws.specs.Bits.{withBitIf}
 use Rattle.units.specs.declared.CellNo.{CellNo}
 use Rattle.quantities.specs.declared.Sample.{Sample}
 use Rattle.guard.specs.declared.Protection.{Protection}
-use Rattle.quantities.specs.Cells.{extremesOf}
-use Rattle.guard.specs.Steps as protected
-use Rattle.guard.specs.Steps.{AllGood, protectionsOf, stepAllWith, protections-step, protections-within}
-use Rattle.raised.specs.Words.{anyRaised, someRaised, anyRaised-is}
+use Rattle.guard.specs.Steps.{AllGood, protectionsOf, protections-step, protections-within}
+use Rattle.raised.specs.Words.{anyRaised-is}
 use Rattle.settings.specs.declared.Settings.{Settings}
-use Rattle.settings.specs.Good.{Good, GoodLimits}
+use Rattle.settings.specs.Good.{Good}
 use Rattle.bleed.specs.History.{bleds, resting, startCell}
 use Rattle.wishes.specs.Word.{wordTo}
-use Rattle.wishes.specs.Steps.{wantingWord, wishes, tenAtMost}
-use Rattle.turns.specs.Steps.{nextCell, nextRuns, rested, restingWord}
-use Rattle.bleed.specs.Steps.{chosenWord, CellOf}
+use Rattle.turns.specs.Steps.{nextRuns, rested, restingWord}
+use Rattle.bleed.specs.Steps.{chosenWord}
 use Rattle.wishes.specs.StepLaws.{ten-is}
 use Rattle.turns.specs.StepLaws.{none-rest}
 use Rattle.bleed.specs.Balance.{runsOf, bledWord, Shows, wanting-shows, start-cell, next-start-is, rested-is, choose-is, runs-are, runs-idle}

@@ -1,12 +1,10 @@
 -- Computed cases that pin the table and the directions against document 01.
 -- Assumes nothing.
 use mathlib.Core.Path.{_≡_, refl}
-use mathlib.Core.Bool.{Bool, true, false}
-use mathlib.Core.List.{List, [], _∷_}
-use lib.IntN.{ℤ, pos, negsuc}
-use Rattle.protections.specs.declared.Row.{Row}
+use mathlib.Core.Bool.{true, false}
+use mathlib.Core.List.{[], _∷_}
+use lib.IntN.{pos, negsuc}
 use Rattle.protections.specs.declared.Quantity.the-variants.{HighestCell, LowestCell, Current, Temperature1, Temperature2}
-use Rattle.protections.specs.declared.Direction.{Direction}
 use Rattle.protections.specs.declared.Direction.the-variants.{Above, Below}
 use Rattle.protections.specs.declared.Mode.the-variants.{Silent, Number}
 use Rattle.protections.specs.Direction.{reaches, back, inOrder}

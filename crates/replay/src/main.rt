@@ -1,7 +1,6 @@
 // replay PAGE LOG: writes what a settings page and a log give to standard output, the header and one line per log line, or the
 // one line of a refused page. What it cannot do it says on standard error; until a page and the first part of the log are read it
 // writes nothing else.
-ghost use mathlib.Core.Path.{_≡_};
 ghost use Prim.Native.Nat.{_≤_, _<_};
 ghost use lib.ListN.{length};
 ghost use Rattle.pack.specs.Kept.{Kept};
@@ -144,7 +143,7 @@ fn answer(name: &[u8], fd: i32, p: Pack, buf: &mut [u8], first: usize, out: &mut
 {
     let r = answer_lines(name, fd, p, buf, first, out);
     if r.ok {
-        let n = log::last(buf, r.held);
+        let n = ends::last(buf, r.held);
         let k = r.pack;
         answer_part(k, buf, n, out);
     }
@@ -154,7 +153,7 @@ fn answer(name: &[u8], fd: i32, p: Pack, buf: &mut [u8], first: usize, out: &mut
 fn replay(page: &[u8], name: &[u8], fd: i32, buf: &mut [u8], first: usize, out: &mut [u8])
     requires { ⌜ first ≤ length (now buf) ⌝ }
 {
-    let b = log::begin(page, out);
+    let b = ends::begin(page, out);
     let n = b.written;
     let text = &out[..n];
     if !write_text(text) {

@@ -1,18 +1,17 @@
 -- "R 1, one cell always wanting, no others: it is bled at every second sample": of any n, any K and any cell, however many samples there are.
 -- Assumes nothing.
-use mathlib.Core.Path.{_≡_, refl, sym, ap, _∙_}
+use mathlib.Core.Path.{_≡_, refl, sym}
 use mathlib.Core.Logic.{⊎-elim}
-use mathlib.Core.Bool.{Bool, true, false, not, _&&_}
+use mathlib.Core.Bool.{Bool, true, false, not}
 use mathlib.Core.List.{List, [], _∷_, map}
-use Prim.Native.Nat.{ℕ, zero, suc, _≤_, _<_}
+use Prim.Native.Nat.{ℕ, zero, suc, _≤_}
 use native.Mathlib.Nat.{not-suc-le-zero}
 use native.Mathlib.Omega.{arith}
 use lib.Dec.{eqb}
 use lib.ListN.{length, getD, replicate}
 use borrow.Author.Tests.{eq-eqb, ne-eqb, eqb-true}
 use Rattle.laws.specs.Tests.{by-test, clash, and-left, or-left, or-right, or-cases}
-use Rattle.laws.specs.Latest.{lastAll}
-use Rattle.bleed.specs.Walk.{has, neighbours, hasNeighbour, chosen}
+use Rattle.bleed.specs.Walk.{has, hasNeighbour, chosen}
 use Rattle.bleed.specs.WalkLaws.{only-wanting, no-waste}
 use Rattle.bleed.specs.History.{resting, startCell, bleds}
 

@@ -1,7 +1,7 @@
 -- What a line of the log is answered with, and the pack behind it: document 01, "The replay program" and "Refusal numbers".
 -- Assumes nothing.
 use Prim.Native.Nat.{ℕ, _<_}
-use mathlib.Core.Path.{_≡_, sym, ap, _∙_}
+use mathlib.Core.Path.{_≡_, ap}
 use mathlib.Core.List.{List}
 use lib.ListN.{length}
 use Rattle.page.specs.declared.Verdict.{Verdict}

@@ -1,7 +1,6 @@
 // words PAGE LOG: replays the log and then writes what the pack answers on the bus, one line for each command from 00 to ff: the reply's
 // three bytes in hexadecimal, or `refused` and the number. A refused page gives its one line. What it cannot do it says on standard
 // error, and then it writes nothing else.
-ghost use mathlib.Core.Path.{_≡_};
 ghost use Prim.Native.Nat.{_≤_, _<_};
 ghost use lib.ListN.{length};
 ghost use Rattle.pack.specs.Kept.{Kept};
@@ -202,7 +201,7 @@ fn answer(name: &[u8], fd: i32, p: Pack, buf: &mut [u8], first: usize, out: &mut
 fn words(page: &[u8], name: &[u8], fd: i32, buf: &mut [u8], first: usize, out: &mut [u8])
     requires { ⌜ first ≤ length (now buf) ⌝ }
 {
-    let b = log::begin(page, out);
+    let b = ends::begin(page, out);
     let verdict = b.verdict;
     match verdict {
         Verdict::Accepted => {

@@ -7,8 +7,6 @@ use mathlib.Core.List.{List}
 use Prim.Native.Nat.{ℕ}
 use lib.Dec.{ltb, leb, eqb}
 use Rattle.laws.specs.Tests.{by-test}
-use Rattle.page.specs.declared.Verdict.{Verdict}
-use Rattle.page.specs.declared.Verdict.the-variants as verdict
 use Rattle.quantities.specs.declared.Sample.{Sample}
 use Rattle.quantities.specs.Cells.{lookedAt}
 use Rattle.samples.specs.Samples.{cellsFit, temperatureFits, sampleRefusals, sampleVerdict, commandRefusals, commandVerdict}

@@ -2,7 +2,7 @@
 use mir.Facts.{toZ-ofZ}
 use borrow.Kind.Array.{eInt, good-length}
 use mir.Syntax.{w16}
-use mathlib.Core.Path.{_≡_, refl, sym, ap, _∙_}
+use mathlib.Core.Path.{_≡_, refl, ap, _∙_}
 use mathlib.Core.List.{List}
 use Prim.Native.Nat.{_≤_, _-_}
 use lib.ListN.{getD, replicate}

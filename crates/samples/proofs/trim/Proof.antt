@@ -1,6 +1,6 @@
 -- `samples::trim` meets its contract. The loop's invariant: the first `i` entries are kept or 0, the others as they were. Assumes nothing.
 use Prim.Native.Nat.{_-_, _≤_}
-use mathlib.Core.Path.{_≡_, refl, ap, _∙_}
+use mathlib.Core.Path.{_≡_, refl}
 use Rattle.quantities.specs.Cells.{noVolts}
 use Rattle.laws.specs.Each.{eachTo, each-next}
 use Rattle.samples.specs.Samples.{keptCell, trimmed}

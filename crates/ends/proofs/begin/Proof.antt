@@ -1,9 +1,9 @@
--- `log::begin` meets its contract. Assumes nothing.
+-- `ends::begin` meets its contract. Assumes nothing.
 use mathlib.Core.Path.{ap}
 use Rattle.pack.specs.declared.Answered.{Answered}
 use borrow.Author.Needs.{needs}
-use Rattle.log.proofs.begin.Statement.{statement}
-use Rattle.log.proofs.begin.Tie as tie
+use Rattle.ends.proofs.begin.Statement.{statement}
+use Rattle.ends.proofs.begin.Tie as tie
 
 load-requires : tie.Need-load-requires
 load-requires c κs = search needs

@@ -1,10 +1,10 @@
--- `log::last` meets its contract. Assumes nothing.
+-- `ends::last` meets its contract. Assumes nothing.
 use Rattle.log.specs.Replay.{closed-none, closed-put}
 use Rattle.answers.specs.Room.{put-within}
 use native.Mathlib.Omega.{arith}
 use borrow.Author.Needs.{needs}
-use Rattle.log.proofs.last.Statement.{statement}
-use Rattle.log.proofs.last.Tie as tie
+use Rattle.ends.proofs.last.Statement.{statement}
+use Rattle.ends.proofs.last.Tie as tie
 
 returns : tie.Need-returns
 returns c = (closed-none _ _ (c .if1 .taken), λ h. omega arith)
