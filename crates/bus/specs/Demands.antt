@@ -11,9 +11,9 @@ use Rattle.page.specs.Refusals.{NoFault, Lowest, first, none-exactly, refuse-ex
 use Rattle.page.specs.Exactly.{refused-not, refused-one}
 use Rattle.page.specs.declared.Verdict.{Verdict}
 use Rattle.page.specs.declared.Verdict.the-variants.{Accepted, Refused as PageRefused}
-use Rattle.pack.specs.declared.Pack.{Pack}
+use Rattle.state.specs.declared.Pack.{Pack}
 use Rattle.pack.specs.Events.{Event}
-use Rattle.pack.specs.State.{stateOf}
+use Rattle.state.specs.State.{stateOf}
 use Rattle.pack.specs.Kept.{pageOf, pastAfter, stateAfter}
 use Rattle.pack.specs.After.{after, after-is}
 use Rattle.bus.specs.declared.Replied.{Replied}

@@ -12,9 +12,9 @@ use Rattle.laws.specs.Tests.{by-test}
 use Rattle.crc.specs.CheckByte.{checkByte}
 use Rattle.page.specs.Refusals.{rule, Refusal, refusal, Answer, answer, first}
 use Rattle.settings.specs.declared.Settings.{Settings}
-use Rattle.pack.specs.declared.Pack.{Pack}
-use Rattle.pack.specs.Events.{Past}
-use Rattle.pack.specs.State.{anySample}
+use Rattle.state.specs.declared.Pack.{Pack}
+use Rattle.state.specs.Past.{Past}
+use Rattle.state.specs.State.{anySample}
 use Rattle.commands.specs.declared.Sends.{Sends}
 use Rattle.commands.specs.declared.Sends.the-variants.{Nothing, Cell, Whole}
 use Rattle.bus.specs.declared.Framed.{Framed}

@@ -4,9 +4,9 @@ ghost use Rattle.pack.specs.Kept.{Kept};
 ghost use Rattle.bus.specs.Replies.{notInTable, cellAbove, frameOf, repliedTo, toldTo};
 use commands::Sends;
 use commands::row_of_command;
-use sent::sent_word;
 use crc::check_byte;
-use pack::Pack;
+use sent::sent_word;
+use state::Pack;
 
 // The three bytes of a reply.
 pub struct Framed {

@@ -18,9 +18,9 @@ use Rattle.quantities.specs.declared.Sample.{Sample}
 use Rattle.quantities.specs.Cells.{noVolts, lookedAt, looked-most}
 use Rattle.samples.specs.Samples.{cellFits, cellsFit, keptCell, trimmed, sampleRefusals, sampleVerdict, commandVerdict}
 use Rattle.settings.specs.Good.{Good}
-use Rattle.pack.specs.declared.Pack.{Pack}
+use Rattle.state.specs.declared.Pack.{Pack}
 use Rattle.pack.specs.Events.{Event, offer, command, accepts, withEvent, pastOf}
-use Rattle.pack.specs.State.{latestOf, stateOf}
+use Rattle.state.specs.State.{latestOf, stateOf}
 use Rattle.pack.specs.Kept.{Kept, pageOf, stateAfter}
 use Rattle.pack.specs.Calls.{page-good}
 use Rattle.commands.specs.Words.{sumTo, sumOf, Bounded}

@@ -27,7 +27,7 @@ use Rattle.samples.specs.Samples.{cellsFit, keptCell, trimmed, sampleRefusals, 
 use Rattle.settings.specs.declared.Rules.{Rules}
 use Rattle.settings.specs.declared.Settings.{Settings}
 use Rattle.pack.specs.Events.{Event, offer, command, withEvent, pastOf}
-use Rattle.pack.specs.State.{wishAt, wishesOf, bledAfter}
+use Rattle.state.specs.State.{wishAt, wishesOf, bledAfter}
 use Rattle.shown.specs.Shown.{modeOrder, firstMode, modeAfter}
 use Rattle.commands.specs.Table.{table, rowOf}
 use Rattle.commands.specs.Words.{sumTo, cellWord, heatRaised, statusWord, withSwitches, packWord, sentWord, wordAfter}

@@ -19,10 +19,11 @@ use Rattle.raised.specs.Words.{raisedAfter, blocksAny-is, raisedWord-has}
 use Rattle.settings.specs.declared.Settings.{Settings}
 use Rattle.settings.specs.Settings.{rulesOf, settingsOf}
 use Rattle.bleed.specs.Balance.{bled-few}
-use Rattle.pack.specs.declared.Pack.{Pack}
+use Rattle.state.specs.declared.Pack.{Pack}
 use Rattle.quantities.specs.declared.Sample.{Sample}
-use Rattle.pack.specs.Events.{Event, Past, past}
-use Rattle.pack.specs.State.{wishesOf, bledAfter, balanceAfter, stateOf}
+use Rattle.pack.specs.Events.{Event}
+use Rattle.state.specs.Past.{Past, past}
+use Rattle.state.specs.State.{wishesOf, bledAfter, balanceAfter, stateOf}
 use Rattle.pack.specs.Kept.{pageOf, pastAfter, stateAfter}
 use Rattle.shown.specs.Shown.{switchAfter, switchesWord}
 use Rattle.pack.specs.Calls.{page-accepted}

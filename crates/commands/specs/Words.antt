@@ -19,9 +19,9 @@ use Rattle.quantities.specs.Cells.{noVolts, lookedAt}
 use Rattle.raised.specs.Words.{raisedAfter, raisedWord, raisedBits, blocked, blocksAny}
 use Rattle.wishes.specs.Wants.{isCharging}
 use Rattle.settings.specs.declared.Settings.{Settings}
-use Rattle.pack.specs.declared.Pack.{Pack}
-use Rattle.pack.specs.Events.{Past}
-use Rattle.pack.specs.State.{latestOf, bledAfter}
+use Rattle.state.specs.declared.Pack.{Pack}
+use Rattle.state.specs.Past.{Past}
+use Rattle.state.specs.State.{latestOf, bledAfter}
 use Rattle.shown.specs.Shown.{switchAfter, switchesOf, modeAfter, modeOf}
 use Rattle.commands.specs.declared.Sends.{Sends}
 use Rattle.commands.specs.declared.Sends.the-variants.{Nothing, Cell, Whole}

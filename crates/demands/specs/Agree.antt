@@ -4,8 +4,8 @@ use mathlib.Core.Path.{_≡_}
 use lib.ListN.{length}
 use Rattle.quantities.specs.declared.Sample.{Sample}
 use Rattle.samples.specs.Samples.{Agree, agree-verdict, agree-trimmed}
-use Rattle.pack.specs.declared.Pack.{Pack}
-use Rattle.pack.specs.State.{offered}
+use Rattle.state.specs.declared.Pack.{Pack}
+use Rattle.pack.specs.Answers.{offered}
 
 pub agree-offered : (p : Pack) (s t : Sample) → length (s .cells) ≡ 10 → length (t .cells) ≡ 10 → Agree s t → offered p s ≡ offered p t
 unfolding offered

@@ -15,7 +15,7 @@ use Rattle.bleed.specs.Walk.{has}
 use Rattle.bleed.specs.History.{bleds}
 use Rattle.wishes.specs.Word.{inWord}
 use Rattle.bleed.specs.Balance.{bledWord, bledNow, bled-bit}
-use Rattle.pack.specs.State.{wishesOf, bledAfter}
+use Rattle.state.specs.State.{wishesOf, bledAfter}
 
 -- The bled words of a history, one for each accepted sample: what 0x46 showed after it.
 abbrev pub bledWords : Settings → List Sample → List ℕ

@@ -37,10 +37,11 @@ use Rattle.settings.specs.declared.Settings.{Settings}
 use Rattle.settings.specs.declared.Loaded.{Loaded}
 use Rattle.settings.specs.Settings.{inDegrees, tripLevel, releaseLevel, limitsAt, limitsOf, rulesOf, settingsOf, noSettings, loadedOf}
 use Rattle.settings.specs.Cases.{workedRules, worked, worked-loaded}
-use Rattle.pack.specs.declared.Pack.{Pack}
+use Rattle.state.specs.declared.Pack.{Pack}
 use Rattle.pack.specs.declared.Answered.{Answered}
 use Rattle.pack.specs.Events.{Event, offer, command, accepts}
-use Rattle.pack.specs.State.{wishAt, wishesOf, bledAfter, freshPack, freshBalance, nextTick, nextBalance, wantWith, acceptedPack, offered, withCommand, commanded}
+use Rattle.state.specs.State.{wishAt, wishesOf, bledAfter, freshPack, freshBalance, nextTick, nextBalance, wantWith, acceptedPack}
+use Rattle.pack.specs.Answers.{offered, withCommand, commanded}
 use Rattle.pack.specs.Kept.{pageOf}
 use Rattle.demands.specs.BledWords.{bledWords}
 use Rattle.shown.specs.Shown.{modeOrder, firstMode, switchesOf, modeOf, decisionOf}

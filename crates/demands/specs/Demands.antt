@@ -29,10 +29,11 @@ use Rattle.wishes.specs.Word.{inWord}
 use Rattle.bleed.specs.History.{wantsCell}
 use Rattle.bleed.specs.Demand.{fair-anywhere, never-over-R}
 use Rattle.bleed.specs.Balance.{bled-few, bled-apart}
-use Rattle.pack.specs.declared.Pack.{Pack}
+use Rattle.state.specs.declared.Pack.{Pack}
 use Rattle.shown.specs.declared.Decision.{Decision}
 use Rattle.pack.specs.Events.{Event}
-use Rattle.pack.specs.State.{wishesOf, bledAfter, offered, commanded}
+use Rattle.state.specs.State.{wishesOf, bledAfter}
+use Rattle.pack.specs.Answers.{offered, commanded}
 use Rattle.pack.specs.Kept.{pageOf, pastAfter, stateAfter}
 use Rattle.shown.specs.Shown.{switchAfter, decisionAfter, switchOn, decisionOf}
 use Rattle.pack.specs.Calls.{page-accepted}

@@ -33,7 +33,7 @@ use Rattle.bleed.specs.History.{wantsCell, resting, startCell, bleds}
 use Rattle.wishes.specs.Wants.{wants}
 use Rattle.wishes.specs.Steps.{wishes, cellOf}
 use Rattle.wishes.specs.Word.{inWord}
-use Rattle.pack.specs.State.{wishAt, wishesOf}
+use Rattle.state.specs.State.{wishAt, wishesOf}
 use Rattle.demands.specs.BledWords.{bledWords, words-alike, alike-drop, alike-among}
 
 -- ---- a cell that wants alone

@@ -7,7 +7,7 @@ use contract.Lifetimes.{Lfts}
 use denote.Triple.Clauses.{AtExit}
 use Rattle.writing.specs.Putting.{put-one}
 use Rattle.page.specs.declared.Verdict.{Verdict}
-use Rattle.pack.specs.declared.Pack.{Pack}
+use Rattle.state.specs.declared.Pack.{Pack}
 use Rattle.ends.specs.declared.Begun.{Begun}
 use Rattle.answers.specs.Room.{opened-one}
 use Rattle.ends.proofs.last.Reads as last

@@ -6,8 +6,8 @@ ghost use Rattle.writing.specs.Placing.{Put};
 ghost use Rattle.pack.specs.Kept.{Kept, afterLoad};
 ghost use Rattle.answers.specs.Room.{Opened};
 ghost use Rattle.log.specs.Replay.{closing};
-use pack::Pack;
 use page::Verdict;
+use state::Pack;
 
 // Where a log starts: what the page judge says, the bytes written, and the pack.
 pub struct Begun {

@@ -4,11 +4,11 @@ use Prim.Native.Nat.{ℕ, suc}
 use mathlib.Core.Bool.{Bool, false, cond}
 use mathlib.Core.List.{List, [], _∷_}
 use lib.Dec.{ltb, eqb}
-use lib.IntN.{ℤ, pos}
+use lib.IntN.{ℤ}
 use lib.ListN.{length, set, replicate}
 use Rattle.units.specs.declared.MilliVolts.{MilliVolts}
-use Rattle.quantities.specs.declared.Sample.{Sample}
 use Rattle.quantities.specs.Cells.{noVolts}
+use Rattle.quantities.specs.None.{noSample}
 use Rattle.numbers.specs.declared.Number.{Number}
 use Rattle.numbers.specs.declared.Number.the-variants as number
 use Rattle.numbers.specs.declared.Signed.{Signed}
@@ -21,16 +21,12 @@ use Rattle.entries.specs.declared.Entry.{Entry}
 
 -- ---- the three kinds of line, as values
 
--- What stands for the sample of a line that has none.
-abbrev pub blank : Sample
-blank =
-    record { count = 0; cells = replicate 10 noVolts; current = pos 0; t1 = record { 0 = 0 }; t2 = record { 0 = 0 } }
-
+-- A line that has no sample says the one that stands for none.
 abbrev pub malformed : Entry
-malformed = record { kind = Malformed; command = 0; sample = blank }
+malformed = record { kind = Malformed; command = 0; sample = noSample }
 
 abbrev pub command : ℕ → Entry
-command c = record { kind = Command; command = c; sample = blank }
+command c = record { kind = Command; command = c; sample = noSample }
 
 -- The first count entries of cells are the cells of the line, the first of them cell 1.
 abbrev pub offer : ℤ → ℕ → ℕ → ℕ → List MilliVolts → Entry

@@ -6,12 +6,13 @@ ghost use Rattle.entries.specs.Entry.{malformed, offer, commandOf, sampl
 ghost use Rattle.entries.specs.Left.{left};
 ghost use Rattle.entries.specs.InTurn.{cellsOf, startOf};
 use inplace::FieldNumber;
+use inplace::number_at;
 use numbers::Number;
 use numbers::Signed;
-use inplace::number_at;
 use numbers::past_minus;
 use numbers::with_sign;
 use quantities::Sample;
+use quantities::no_sample;
 use units::DeciKelvin;
 use units::MilliVolts;
 
@@ -29,22 +30,10 @@ pub struct Entry {
     pub sample: Sample,
 }
 
-fn blank() -> Sample
-    ensures { λ r. ⌜ r ≡ Rattle.entries.specs.Entry.blank ⌝ }
-{
-    Sample {
-        count: 0,
-        cells: [MilliVolts(0); 10],
-        current: 0,
-        t1: DeciKelvin(0),
-        t2: DeciKelvin(0),
-    }
-}
-
 fn no_entry() -> Entry
     ensures { λ r. ⌜ r ≡ malformed ⌝ }
 {
-    let sample = blank();
+    let sample = no_sample();
     Entry {
         kind: Kind::Malformed,
         command: 0,
@@ -67,7 +56,7 @@ fn read_command(line: &[u8], at: usize) -> Entry
     let Number::Value(c) = numbers::read_number(f) else {
         return no_entry();
     };
-    let sample = blank();
+    let sample = no_sample();
     Entry {
         kind: Kind::Command,
         command: c,

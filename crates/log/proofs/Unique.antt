@@ -10,7 +10,7 @@ use contract.Lifetimes.{Lfts}
 use denote.Triple.Clauses.{AtExit}
 use Rattle.lines.specs.Carrying.{carriedOf, movedDown}
 use Rattle.lines.specs.Chunk.{chunk-done, chunk-used, chunk-written, chunk-state, chunk-memory}
-use Rattle.pack.specs.declared.Pack.{Pack}
+use Rattle.state.specs.declared.Pack.{Pack}
 use Rattle.log.specs.declared.Chunk.{Chunk}
 use Rattle.log.specs.declared.Fed.{Fed}
 use Rattle.log.specs.Replay.{nextOf, answerOf, Chunked, Went}

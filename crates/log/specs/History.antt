@@ -7,9 +7,10 @@ use mathlib.Core.List.{List, [], _∷_, _++_}
 use Rattle.page.specs.declared.Verdict.{Verdict}
 use Rattle.page.specs.declared.Verdict.the-variants as verdict
 use Rattle.samples.specs.Samples.{sampleVerdict, commandVerdict}
-use Rattle.pack.specs.declared.Pack.{Pack}
+use Rattle.state.specs.declared.Pack.{Pack}
 use Rattle.pack.specs.Events.{Event, offer, command}
-use Rattle.pack.specs.State.{stateOf, offered, commanded}
+use Rattle.state.specs.State.{stateOf}
+use Rattle.pack.specs.Answers.{offered, commanded}
 use Rattle.pack.specs.Kept.{pageOf, pastAfter, stateAfter, afterLoad}
 use Rattle.shown.specs.Shown.{decisionAfter}
 use Rattle.pack.specs.After.{after, after-is}

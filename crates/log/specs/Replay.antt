@@ -20,7 +20,7 @@ use Rattle.lines.specs.Output as any
 use Rattle.lines.specs.Chunk as cut
 use Rattle.page.specs.declared.Verdict.{Verdict}
 use Rattle.page.specs.declared.Verdict.the-variants as verdict
-use Rattle.pack.specs.declared.Pack.{Pack}
+use Rattle.state.specs.declared.Pack.{Pack}
 use Rattle.pack.specs.Kept.{afterLoad}
 use Rattle.telling.specs.Turns.{turnOf, turned, turn-overlong}
 use Rattle.answers.specs.Texts.{textOf, openingText, headerText}

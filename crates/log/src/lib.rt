@@ -3,7 +3,7 @@ ghost use Rattle.pack.specs.Kept.{Kept};
 ghost use Rattle.log.specs.Replay.{Chunked, Went};
 use answers::ROOM;
 use lines::NextLine;
-use pack::Pack;
+use state::Pack;
 
 // How far a chunk of log was answered: whether no newline is left, the bytes used and written, and the pack behind them.
 pub struct Chunk {

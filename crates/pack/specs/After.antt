@@ -3,12 +3,12 @@
 use mathlib.Core.Path.{_≡_, ap, _∙_}
 use mathlib.Core.List.{List, [], _∷_}
 use Prim.Native.Nat.{ℕ}
-use Rattle.pack.specs.declared.Pack.{Pack}
+use Rattle.state.specs.declared.Pack.{Pack}
+use Rattle.state.specs.Steps.{state-fresh}
 use Rattle.pack.specs.declared.Answered.{Answered}
 use Rattle.pack.specs.Events.{Event, offer, command, pastOf}
-use Rattle.pack.specs.State.{offered, commanded}
+use Rattle.pack.specs.Answers.{offered, commanded}
 use Rattle.pack.specs.Kept.{pageOf, stateAfter, afterLoad}
-use Rattle.pack.specs.Steps.{state-fresh}
 use Rattle.pack.specs.Calls.{offered-is, commanded-is}
 
 -- The pack after a load and a list of calls, one after the other.

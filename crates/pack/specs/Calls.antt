@@ -15,12 +15,13 @@ use Rattle.samples.specs.Samples.{sampleVerdict, commandVerdict, trimmed, sampl
 use Rattle.settings.specs.declared.Loaded.{Loaded}
 use Rattle.settings.specs.Settings.{settingsOf, noSettings, loadedOf, loadedWith}
 use Rattle.settings.specs.Good.{Good, accepted-good}
-use Rattle.pack.specs.declared.Pack.{Pack}
+use Rattle.state.specs.declared.Pack.{Pack}
+use Rattle.state.specs.State.{stateOf, freshPack, acceptedPack, Ready}
+use Rattle.state.specs.Steps.{state-next, state-ready, state-fresh}
 use Rattle.pack.specs.declared.Answered.{Answered}
 use Rattle.pack.specs.Events.{Event, offer, command, accepts, withEvent, pastOf}
-use Rattle.pack.specs.State.{stateOf, freshPack, acceptedPack, Ready, answered, offered, withCommand, commanded}
+use Rattle.pack.specs.Answers.{answered, offered, withCommand, commanded}
 use Rattle.pack.specs.Kept.{pageOf, pastAfter, stateAfter, Kept, afterLoad}
-use Rattle.pack.specs.Steps.{state-next, state-ready, state-fresh}
 
 -- ---- a pack that accepts anything has an accepted page
 

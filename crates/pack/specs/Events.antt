@@ -7,6 +7,7 @@ use Prim.Native.Nat.{ℕ}
 use Rattle.page.specs.declared.Verdict.{Verdict}
 use Rattle.page.specs.declared.Verdict.the-variants.{Accepted, Refused}
 use Rattle.quantities.specs.declared.Sample.{Sample}
+use Rattle.state.specs.Past.{Past, past}
 use Rattle.samples.specs.Samples.{sampleVerdict, commandVerdict, trimmed}
 
 pub data Event : Type 0 where
@@ -16,14 +17,6 @@ pub data Event : Type 0 where
 abbrev pub accepts : Verdict → Bool
 accepts Accepted = true
 accepts (Refused number word) = false
-
--- What counts of the events since the load: the accepted samples, and the last accepted command, which is 0 at the load.
-pub record Past : Type 0 where
-  pub history : List Sample
-  pub standing : ℕ
-
-abbrev pub past : List Sample → ℕ → Past
-past h c = record { history = h; standing = c }
 
 -- One event more, in a pack of n cells. A refused one leaves no trace.
 unfoldable pub withEvent : ℕ → Event → Past → Past

@@ -5,10 +5,12 @@ use mathlib.Core.List.{List}
 use Prim.Native.Nat.{ℕ}
 use Rattle.settings.specs.declared.Settings.{Settings}
 use Rattle.settings.specs.Settings.{loadedOf}
-use Rattle.pack.specs.declared.Pack.{Pack}
+use Rattle.state.specs.declared.Pack.{Pack}
+use Rattle.state.specs.Past.{Past}
+use Rattle.state.specs.State.{stateOf, freshPack}
 use Rattle.pack.specs.declared.Answered.{Answered}
-use Rattle.pack.specs.Events.{Event, Past, pastOf}
-use Rattle.pack.specs.State.{stateOf, freshPack, answered}
+use Rattle.pack.specs.Events.{Event, pastOf}
+use Rattle.pack.specs.Answers.{answered}
 
 -- What a page's bytes say; for a refused page, the settings of a pack without a page.
 abbrev pub pageOf : List ℕ → Settings

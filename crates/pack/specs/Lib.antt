@@ -1,6 +1,5 @@
 pub mod After
+pub mod Answers
 pub mod Calls
 pub mod Events
 pub mod Kept
-pub mod State
-pub mod Steps

@@ -2,12 +2,17 @@
 -- Assumes nothing.
 use mathlib.Core.Path.{sym, _∙_}
 use Rattle.laws.specs.Unique.{Unique}
+use Rattle.quantities.proofs.no_sample.Reads as no-sample
+use Rattle.quantities.proofs.no_sample.Kinds as no-sample-kinds
 use Rattle.quantities.proofs.looked_at.Reads as looked-at
 use Rattle.quantities.proofs.looked_at.Kinds as looked-at-kinds
 use Rattle.quantities.proofs.extremes_of.Reads as extremes-of
 use Rattle.quantities.proofs.extremes_of.Kinds as extremes-of-kinds
 use Rattle.quantities.proofs.measured.Reads as measured
 use Rattle.quantities.proofs.measured.Kinds as measured-kinds
+
+no-sample-one : Unique 0 no-sample-kinds.ps no-sample-kinds.r no-sample.Post
+no-sample-one κs a x y s t p q = p ∙ sym q
 
 looked-at-one : Unique 0 looked-at-kinds.ps looked-at-kinds.r looked-at.Post
 looked-at-one κs a x y s t p q = p ∙ sym q

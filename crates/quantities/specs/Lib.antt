@@ -1,3 +1,4 @@
 pub mod Cases
 pub mod Cells
 pub mod Measure
+pub mod None

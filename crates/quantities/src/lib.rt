@@ -2,6 +2,7 @@
 ghost use mathlib.Core.Path.{_≡_};
 ghost use Rattle.quantities.specs.Cells.{larger, smaller, lookedAt, widen, extremesOf};
 ghost use Rattle.quantities.specs.Measure.{measureWith};
+ghost use Rattle.quantities.specs.None.{noSample};
 use protections::Quantity;
 use units::DeciKelvin;
 use units::MilliVolts;
@@ -19,6 +20,19 @@ pub struct Sample {
 pub struct Extremes {
     pub highest: MilliVolts,
     pub lowest: MilliVolts,
+}
+
+// What stands for a sample where there is none: no cell, and 0 throughout.
+pub fn no_sample() -> Sample
+    ensures { λ r. ⌜ r ≡ noSample ⌝ }
+{
+    Sample {
+        count: 0,
+        cells: [MilliVolts(0); 10],
+        current: 0,
+        t1: DeciKelvin(0),
+        t2: DeciKelvin(0),
+    }
 }
 
 // ---- highest and lowest cell

@@ -6,8 +6,8 @@ ghost use lib.ListN.{length};
 ghost use Rattle.pack.specs.Kept.{Kept};
 use libc::STDERR_FILENO;
 use libc::STDOUT_FILENO;
-use pack::Pack;
 use page::Verdict;
+use state::Pack;
 
 // How many bytes of a buffer were filled, and whether no read failed.
 struct Got {

@@ -8,8 +8,8 @@ use bus::Replied;
 use bus::answer_to;
 use bus::frame;
 use commands::row_of_command;
-use pack::Pack;
 use sent::sent_word;
+use state::Pack;
 
 // Puts the three bytes where the answer is `Sent`; a refusal leaves the buffer as it was.
 fn put(answer: Replied, f: Framed, out: &mut [u8])

@@ -10,8 +10,9 @@ use Rattle.protections.specs.Table.{protections}
 use Rattle.raised.specs.Words.{raisedAfter, raisedWord, raisedBits, raisedBits-is, blocksAny-is, raisedWord-has}
 use Rattle.settings.specs.declared.Settings.{Settings}
 use Rattle.wishes.specs.Wants.{isCharging}
-use Rattle.pack.specs.Events.{Event, Past}
-use Rattle.pack.specs.State.{balanceAfter, stateOf, anySample, latestOf}
+use Rattle.pack.specs.Events.{Event}
+use Rattle.state.specs.Past.{Past}
+use Rattle.state.specs.State.{balanceAfter, stateOf, anySample, latestOf}
 use Rattle.pack.specs.Kept.{pageOf, pastAfter, stateAfter}
 use Rattle.pack.specs.After.{after, after-is}
 use Rattle.shown.specs.Shown.{switchAfter, switchesWord, modeOrder, firstMode, flowMode, modeAfter, decisionAfter, decision, switchOn, switchesOf, modeOf, decisionOf}

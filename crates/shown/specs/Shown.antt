@@ -16,10 +16,10 @@ use Rattle.quantities.specs.declared.Sample.{Sample}
 use Rattle.raised.specs.Words.{raisedAfter, raisedWord, blocked, raisedBits, blocksAny}
 use Rattle.wishes.specs.Wants.{isCharging}
 use Rattle.settings.specs.declared.Settings.{Settings}
-use Rattle.pack.specs.declared.Pack.{Pack}
+use Rattle.state.specs.declared.Pack.{Pack}
 use Rattle.shown.specs.declared.Decision.{Decision}
-use Rattle.pack.specs.Events.{Past}
-use Rattle.pack.specs.State.{anySample, latestOf, bledAfter}
+use Rattle.state.specs.Past.{Past}
+use Rattle.state.specs.State.{anySample, latestOf, bledAfter}
 
 -- ---- switches
 

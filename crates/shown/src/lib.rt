@@ -4,11 +4,11 @@ ghost use Rattle.laws.specs.Bits.{hasBit};
 ghost use Rattle.shown.specs.Shown.{switchOn, switchesOf, modeNumber, modeOrder, firstMode, flowMode, modeOf, decisionOf};
 use laws::has_bit;
 use laws::with_bit_if;
-use pack::Pack;
 use protections::Mode;
 use protections::row_of;
 use raised::blocks;
 use raised::raised_word;
+use state::Pack;
 use units::ProtectionNo;
 use wishes::is_charging;
 

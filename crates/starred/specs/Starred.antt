@@ -21,7 +21,7 @@ use Rattle.bleed.specs.History.{bleds}
 use Rattle.bleed.specs.Cases.{bled, starred-walk, every-second}
 use Rattle.samples.specs.Samples.{cellsFit, sampleRefusals, sampleVerdict}
 use Rattle.settings.specs.Cases.{worked}
-use Rattle.pack.specs.Events.{past}
+use Rattle.state.specs.Past.{past}
 use Rattle.commands.specs.Table.{table, rowOf}
 use Rattle.commands.specs.Words.{packWord, sentWord, wordAfter}
 use Rattle.bus.specs.Replies.{notInTable, cellAbove, replyRefusals, repliedFor, frameOf, repliedAfter, bufferAfter}

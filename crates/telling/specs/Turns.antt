@@ -6,9 +6,9 @@ use mathlib.Core.List.{List}
 use lib.ListN.{length}
 use Rattle.page.specs.declared.Verdict.{Verdict}
 use Rattle.page.specs.declared.Verdict.the-variants as verdict
-use Rattle.pack.specs.declared.Pack.{Pack}
+use Rattle.state.specs.declared.Pack.{Pack}
 use Rattle.pack.specs.declared.Answered.{Answered}
-use Rattle.pack.specs.State.{offered, commanded, answered}
+use Rattle.pack.specs.Answers.{offered, commanded, answered}
 use Rattle.pack.specs.Kept.{Kept}
 use Rattle.shown.specs.Shown.{decisionOf}
 use Rattle.entries.specs.declared.Kind.{Kind}

@@ -5,9 +5,9 @@ ghost use Rattle.telling.specs.Turns.{answeredAs, turnedBy, turnOf};
 use entries::Entry;
 use entries::Kind;
 use pack::Answered;
-use pack::Pack;
 use page::Verdict;
 use shown::Told;
+use state::Pack;
 
 // What a line is answered with, and the pack behind it.
 pub struct Turned {

@@ -7,8 +7,8 @@ ghost use Rattle.pack.specs.Kept.{Kept};
 use bus::Replied;
 use libc::STDERR_FILENO;
 use libc::STDOUT_FILENO;
-use pack::Pack;
 use page::Verdict;
+use state::Pack;
 
 // How many bytes of a buffer were filled, and whether no read failed.
 struct Got {

@@ -10,8 +10,8 @@ use Rattle.laws.specs.Tests.{by-test}
 use Rattle.quantities.specs.declared.Sample.{Sample}
 use Rattle.quantities.specs.Cells.{lookedAt}
 use Rattle.samples.specs.Samples.{cellsFit, temperatureFits, sampleRefusals, sampleVerdict, commandRefusals, commandVerdict}
-use Rattle.pack.specs.declared.Pack.{Pack}
-use Rattle.pack.specs.State.{offered, commanded}
+use Rattle.state.specs.declared.Pack.{Pack}
+use Rattle.pack.specs.Answers.{offered, commanded}
 use Rattle.entries.specs.declared.Kind.{Kind}
 use Rattle.entries.specs.declared.Kind.the-variants.{Offer, Command, Malformed}
 use Rattle.entries.specs.declared.Entry.{Entry}

@@ -3,11 +3,11 @@ use borrow.Author.Needs.{needs}
 use Rattle.entries.proofs.no_entry.Statement.{statement}
 use Rattle.entries.proofs.no_entry.Tie as tie
 
-blank-requires : tie.Need-blank-requires
-blank-requires c κs = search needs
+no-sample-requires : tie.Need-no-sample-requires
+no-sample-requires c κs = search needs
 
 returns : tie.Need-returns
 returns c = cc
 
 pub no-entry-spec : {M : Type 1} → statement M
-no-entry-spec = tie.close (tie.spec blank-requires returns)
+no-entry-spec = tie.close (tie.spec no-sample-requires returns)

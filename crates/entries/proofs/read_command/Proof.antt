@@ -43,8 +43,8 @@ unfolding commandOf
 returns-3 c =
     c .no-entry3 .ensures ∙ sym (ap commandOf (left-only _ _ _ (c .before .before .before .before .before .field .ensures .0) (omega arith) (omega arith)) ∙ rw (sym (c .before .before .before .read-number .ensures) ∙ c .before .enum-told .given .1))
 
-blank-requires : tie.Need-blank-requires
-blank-requires c κs = search needs
+no-sample-requires : tie.Need-no-sample-requires
+no-sample-requires c κs = search needs
 
 returns-4 : tie.Need-returns-4
 returns-4 c =
@@ -64,5 +64,5 @@ read-command-spec =
     enum-told
     no-entry-requires-3
     returns-3
-    blank-requires
+    no-sample-requires
     returns-4)

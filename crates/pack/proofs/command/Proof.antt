@@ -1,5 +1,5 @@
 -- `pack::command` meets its contract. Assumes nothing.
-use Rattle.pack.specs.State.{withCommand}
+use Rattle.pack.specs.Answers.{withCommand}
 use Rattle.pack.specs.Calls.{command-accepted, command-refused}
 use borrow.Author.Needs.{needs}
 use Rattle.pack.proofs.command.Statement.{statement}

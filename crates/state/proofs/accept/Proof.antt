@@ -1,8 +1,8 @@
--- `pack::accept` meets its contract. Assumes nothing.
-use Rattle.pack.specs.State.{acceptedPack}
+-- `state::accept` meets its contract. Assumes nothing.
+use Rattle.state.specs.State.{acceptedPack}
 use borrow.Author.Needs.{needs}
-use Rattle.pack.proofs.accept.Statement.{statement}
-use Rattle.pack.proofs.accept.Tie as tie
+use Rattle.state.proofs.accept.Statement.{statement}
+use Rattle.state.proofs.accept.Tie as tie
 
 extremes-of-requires : tie.Need-extremes-of-requires
 extremes-of-requires c κs = search needs

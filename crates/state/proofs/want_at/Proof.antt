@@ -1,10 +1,10 @@
--- `pack::want_at` meets its contract. Assumes nothing.
+-- `state::want_at` meets its contract. Assumes nothing.
 use mir.Syntax.{w16}
 use mir.Facts.{toZ-ofZ}
-use Rattle.pack.specs.State.{wantWith}
+use Rattle.state.specs.State.{wantWith}
 use borrow.Author.Needs.{needs}
-use Rattle.pack.proofs.want_at.Statement.{statement}
-use Rattle.pack.proofs.want_at.Tie as tie
+use Rattle.state.proofs.want_at.Statement.{statement}
+use Rattle.state.proofs.want_at.Tie as tie
 
 is-charging-requires : tie.Need-is-charging-requires
 is-charging-requires c κs = search needs

@@ -5,15 +5,14 @@ use mathlib.Core.List.{List, [], _∷_}
 use mathlib.Core.Path.{_≡_}
 use Prim.Native.Nat.{ℕ, _+_, _-_, _%_}
 use lib.Dec.{ltb}
-use lib.IntN.{pos}
 use lib.ListN.{length, replicate}
 use Rattle.quantities.specs.declared.Sample.{Sample}
 use Rattle.guard.specs.declared.Protection.{Protection}
-use Rattle.quantities.specs.Cells.{noVolts, extremesOf, lowest}
+use Rattle.quantities.specs.Cells.{extremesOf}
+use Rattle.quantities.specs.None.{noSample}
 use Rattle.quantities.specs.declared.Extremes.{Extremes}
 use Rattle.guard.specs.Steps.{protectionsOf, stepAll, AllWithin}
 use Rattle.raised.specs.Words.{someRaised, anyRaised}
-use Rattle.page.specs.declared.Verdict.{Verdict}
 use Rattle.settings.specs.declared.Rules.{Rules}
 use Rattle.settings.specs.declared.Settings.{Settings}
 use Rattle.wishes.specs.Wants.{isCharging}
@@ -23,11 +22,9 @@ use Rattle.bleed.specs.Steps.{chosenWord, CellOf}
 use Rattle.bleed.specs.History.{bleds, resting, startCell}
 use Rattle.wishes.specs.Word.{wordTo}
 use Rattle.bleed.specs.Balance.{runsOf, bledWord}
-use Rattle.pack.specs.declared.Balance.{Balance}
-use Rattle.pack.specs.declared.Pack.{Pack}
-use Rattle.pack.specs.declared.Answered.{Answered}
-use Rattle.samples.specs.Samples.{sampleVerdict, commandVerdict, trimmed}
-use Rattle.pack.specs.Events.{Past, accepts}
+use Rattle.state.specs.declared.Balance.{Balance}
+use Rattle.state.specs.declared.Pack.{Pack}
+use Rattle.state.specs.Past.{Past}
 
 -- ---- from the page and the history
 
@@ -42,11 +39,7 @@ unfoldable pub wishesOf : Settings → List Sample → List (ℕ → Bool)
 wishesOf page [] = []
 wishesOf page (s ∷ h) = wishAt page s h ∷ wishesOf page h
 
--- What stands for the latest sample before the first.
-abbrev pub noSample : Sample
-noSample =
-    record { count = 0; cells = replicate 10 noVolts; current = pos 0; t1 = record { 0 = 0 }; t2 = record { 0 = 0 } }
-
+-- Before the first sample, the one that stands for none.
 abbrev pub latestOf : List Sample → Sample
 latestOf [] = noSample
 latestOf (s ∷ h) = s
@@ -161,30 +154,3 @@ freshPack page =
       command = 0;
       tick = 0;
     }
-
-abbrev pub answered : Verdict → Pack → Answered
-answered v p = record { verdict = v; pack = p }
-
--- A sample that is offered: a refused one leaves the pack as it was.
-unfoldable pub offered : Pack → Sample → Answered
-offered p s =
-    let v = sampleVerdict (p .rules .n) s in
-    answered v (cond (accepts v) (acceptedPack p (trimmed s)) p)
-
--- A switch command "acts at once and touches nothing else".
-unfoldable pub withCommand : Pack → ℕ → Pack
-withCommand p c =
-    record {
-      rules = p .rules;
-      protections = p .protections;
-      balance = p .balance;
-      latest = p .latest;
-      sampled = p .sampled;
-      command = c;
-      tick = p .tick;
-    }
-
-unfoldable pub commanded : Pack → ℕ → Answered
-commanded p c =
-    let v = commandVerdict (p .rules .n) c in
-    answered v (cond (accepts v) (withCommand p c) p)

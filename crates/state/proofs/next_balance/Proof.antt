@@ -1,8 +1,8 @@
--- `pack::next_balance` meets its contract. Assumes nothing.
-use Rattle.pack.specs.State.{nextBalance}
+-- `state::next_balance` meets its contract. Assumes nothing.
+use Rattle.state.specs.State.{nextBalance}
 use borrow.Author.Needs.{needs}
-use Rattle.pack.proofs.next_balance.Statement.{statement}
-use Rattle.pack.proofs.next_balance.Tie as tie
+use Rattle.state.proofs.next_balance.Statement.{statement}
+use Rattle.state.proofs.next_balance.Tie as tie
 
 resting-now-requires : tie.Need-resting-now-requires
 resting-now-requires c κs = search needs

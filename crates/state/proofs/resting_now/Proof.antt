@@ -1,8 +1,8 @@
--- `pack::resting_now` meets its contract. Assumes nothing.
+-- `state::resting_now` meets its contract. Assumes nothing.
 use mathlib.Core.Path.{sym}
 use borrow.Author.Needs.{needs}
-use Rattle.pack.proofs.resting_now.Statement.{statement}
-use Rattle.pack.proofs.resting_now.Tie as tie
+use Rattle.state.proofs.resting_now.Statement.{statement}
+use Rattle.state.proofs.resting_now.Tie as tie
 
 returns : tie.Need-returns
 returns c = sym (c .before .pre (c .if1 .taken))

@@ -26,10 +26,10 @@ use Rattle.wishes.specs.StepLaws.{ten-is}
 use Rattle.turns.specs.StepLaws.{none-rest}
 use Rattle.bleed.specs.Balance.{runsOf, bledWord, Shows, wanting-shows, start-cell, next-start-is, rested-is, choose-is, runs-are, runs-idle}
 use Rattle.settings.specs.declared.Rules.{Rules}
-use Rattle.pack.specs.declared.Balance.{Balance}
-use Rattle.pack.specs.declared.Pack.{Pack}
-use Rattle.pack.specs.Events.{Past, past}
-use Rattle.pack.specs.State.{wishAt, wishesOf, restedAfter, bledAfter, balanceAfter, stateOf, nextTick, nextBalance, wantWith, wantAt, Ready, acceptedPack, freshBalance, freshPack}
+use Rattle.state.specs.declared.Balance.{Balance}
+use Rattle.state.specs.declared.Pack.{Pack}
+use Rattle.state.specs.Past.{Past, past}
+use Rattle.state.specs.State.{wishAt, wishesOf, restedAfter, bledAfter, balanceAfter, stateOf, nextTick, nextBalance, wantWith, wantAt, Ready, acceptedPack, freshBalance, freshPack}
 
 -- ---- the tick
 

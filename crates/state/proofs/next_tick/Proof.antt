@@ -1,9 +1,9 @@
--- `pack::next_tick` meets its contract. Assumes nothing.
+-- `state::next_tick` meets its contract. Assumes nothing.
 use borrow.Author.Tests.{lt-ltb, le-ltb}
-use Rattle.pack.specs.State.{nextTick}
+use Rattle.state.specs.State.{nextTick}
 use borrow.Author.Needs.{needs}
-use Rattle.pack.proofs.next_tick.Statement.{statement}
-use Rattle.pack.proofs.next_tick.Tie as tie
+use Rattle.state.proofs.next_tick.Statement.{statement}
+use Rattle.state.proofs.next_tick.Tie as tie
 
 add-result : tie.Need-add-result
 add-result c = search needs

@@ -1,0 +1,38 @@
+-- What the calls answer: a verdict, and the pack behind it.
+-- Assumes nothing.
+use mathlib.Core.Bool.{cond}
+use Prim.Native.Nat.{ℕ}
+use Rattle.page.specs.declared.Verdict.{Verdict}
+use Rattle.quantities.specs.declared.Sample.{Sample}
+use Rattle.samples.specs.Samples.{sampleVerdict, commandVerdict, trimmed}
+use Rattle.state.specs.declared.Pack.{Pack}
+use Rattle.state.specs.State.{acceptedPack}
+use Rattle.pack.specs.declared.Answered.{Answered}
+use Rattle.pack.specs.Events.{accepts}
+
+abbrev pub answered : Verdict → Pack → Answered
+answered v p = record { verdict = v; pack = p }
+
+-- A sample that is offered: a refused one leaves the pack as it was.
+unfoldable pub offered : Pack → Sample → Answered
+offered p s =
+    let v = sampleVerdict (p .rules .n) s in
+    answered v (cond (accepts v) (acceptedPack p (trimmed s)) p)
+
+-- A switch command "acts at once and touches nothing else".
+unfoldable pub withCommand : Pack → ℕ → Pack
+withCommand p c =
+    record {
+      rules = p .rules;
+      protections = p .protections;
+      balance = p .balance;
+      latest = p .latest;
+      sampled = p .sampled;
+      command = c;
+      tick = p .tick;
+    }
+
+unfoldable pub commanded : Pack → ℕ → Answered
+commanded p c =
+    let v = commandVerdict (p .rules .n) c in
+    answered v (cond (accepts v) (withCommand p c) p)
