@@ -19,8 +19,8 @@ use Rattle.pack.specs.After.{after, after-is}
 use Rattle.bus.specs.declared.Replied.{Replied}
 use Rattle.bus.specs.declared.Replied.the-variants.{Sent, Refused}
 use Rattle.commands.specs.Table.{rowOf}
-use Rattle.commands.specs.Words.{sentWord, saidOf}
-use Rattle.commands.specs.Demands.{word-is}
+use Rattle.sent.specs.Words.{sentWord, saidOf}
+use Rattle.sent.specs.Demands.{word-is}
 use Rattle.bus.specs.Replies.{replyRefusals, repliedFor, frameOf, bytesOf, bytesFor, repliedAfter, bufferAfter, repliedTo, bytesAfter}
 
 -- ---- after any load and calls

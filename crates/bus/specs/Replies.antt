@@ -23,7 +23,7 @@ use Rattle.bus.specs.declared.Replied.the-variants.{Sent, Refused}
 use Rattle.bus.specs.declared.Told.{Told}
 use Rattle.bus.specs.declared.Told.the-variants.{Word, Refused as NotTold}
 use Rattle.commands.specs.Table.{rowOf}
-use Rattle.commands.specs.Words.{sentWord, wordAfter, saidOf}
+use Rattle.sent.specs.Words.{sentWord, wordAfter, saidOf}
 
 -- ---- refusals
 

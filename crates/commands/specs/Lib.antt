@@ -1,5 +1,1 @@
 pub mod Table
-pub mod Words
-pub mod Bounds
-pub mod Demands
-pub mod Cases

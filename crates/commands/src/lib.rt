@@ -1,4 +1,4 @@
-// The commands of the bus: what each of them sends. What the word of each is stands in specs/.
+// The commands of the bus: what each of them sends.
 ghost use mathlib.Core.Path.{_≡_};
 ghost use Rattle.commands.specs.Table.{rowOf};
 use units::CellNo;

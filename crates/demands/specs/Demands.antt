@@ -38,7 +38,7 @@ use Rattle.pack.specs.Kept.{pageOf, pastAfter, stateAfter}
 use Rattle.shown.specs.Shown.{switchAfter, decisionAfter, switchOn, decisionOf}
 use Rattle.pack.specs.Calls.{page-accepted}
 use Rattle.pack.specs.After.{after, after-is}
-use Rattle.shown.specs.Decided.{decided, switch-is}
+use Rattle.shown.specs.Decided.{decision-is, switch-is}
 use Rattle.demands.specs.BledWords.{bledWords, alike-drop, alike-among, alike-last, some, ten, words-alike}
 
 -- ---- DEMAND 1. "Any page, sample, command or log line gets an answer. Each refusal in document 01 is given exactly when its row
@@ -81,7 +81,8 @@ demand-2-state = after-is
 
 -- What it decides, the five fields of a line of the replay, is document 01's.
 pub demand-2-decision : (bytes : List ℕ) (es : List Event) → decisionOf (after bytes es) ≡ decisionAfter (pageOf bytes) (pastAfter bytes es)
-demand-2-decision = decided
+unfolding stateAfter
+demand-2-decision bytes es = ap decisionOf (after-is bytes es) ∙ decision-is (pageOf bytes) (pastAfter bytes es)
 
 -- "A commanded switch is on exactly when a sample has been accepted and no raised protection blocks it."
 pub demand-2-switch : (bytes : List ℕ) (es : List Event) (switch : ℕ)
@@ -96,7 +97,7 @@ pub demand-2-raised : (bytes : List ℕ) (es : List Event) (p : ℕ) → p < pro
     ≡ raised (rowAt p) (limitsAt (pageOf bytes .limits) p) (pastAfter bytes es .history)
 unfolding decisionAfter
 demand-2-raised bytes es p inside =
-    ap (λ (d : Decision). hasBit (d .raised) p) (decided bytes es) ∙ raisedWord-has (pageOf bytes .limits) (pastAfter bytes es .history) p inside
+    ap (λ (d : Decision). hasBit (d .raised) p) (demand-2-decision bytes es) ∙ raisedWord-has (pageOf bytes .limits) (pastAfter bytes es .history) p inside
 
 -- ---- DEMAND 3. "From a fresh load, over any history, a cell that wants bleeding at n + 1 consecutive accepted samples, n being the
 -- number of cells, is bled in at least one of them, whatever the other cells do. No cell is bled at more than R accepted samples in
@@ -106,7 +107,7 @@ demand-2-raised bytes es p inside =
 pub bled-is : (bytes : List ℕ) (s : Sample) (h : List Sample) (es : List Event) → pastAfter bytes es .history ≡ s ∷ h
     → decisionOf (after bytes es) .balance ≡ getD (bledWords (pageOf bytes) (pastAfter bytes es .history)) 0 0
 unfolding decisionAfter
-bled-is bytes s h es e = ap (λ (d : Decision). d .balance) (decided bytes es) ∙ rw e
+bled-is bytes s h es e = ap (λ (d : Decision). d .balance) (demand-2-decision bytes es) ∙ rw e
 
 module _ (page : Settings) (good : Good page) where
   -- Cell k wants at n + 1 accepted samples in a row, j samples before the latest: it is bled in at least one of them.

@@ -3,3 +3,4 @@ pub mod BledWords
 pub mod Cases
 pub mod Demands
 pub mod TwoCells
+pub mod History

@@ -30,6 +30,7 @@ pub struct Entry {
     pub sample: Sample,
 }
 
+// A malformed line.
 fn no_entry() -> Entry
     ensures { λ r. ⌜ r ≡ malformed ⌝ }
 {

@@ -19,6 +19,7 @@ pub fn byte_at(page: &[u8], at: usize) -> u8
     0
 }
 
+// A byte as a wider number, of which it is still known that it is a byte.
 fn wide(b: u8) -> u16
     ensures { λ r. ⌜ (r ≡ b) × (r ≤ 255) ⌝ }
 {
@@ -30,7 +31,9 @@ pub fn word(page: &[u8], i: u8) -> u16
     ensures { λ r. ⌜ r ≡ wordAt (now (page .entry)) i ⌝ }
 {
     let at = 2 * (i as usize);
-    wide(byte_at(page, at)) + 256 * wide(byte_at(page, at + 1))
+    let low = byte_at(page, at);
+    let high = byte_at(page, at + 1);
+    wide(low) + 256 * wide(high)
 }
 
 // Whether a value is one of low..high.

@@ -6,7 +6,7 @@ ghost use Rattle.laws.specs.Bits.{hasBit};
 ghost use Rattle.quantities.specs.Cells.{lookedAt};
 ghost use Rattle.raised.specs.Words.{blocksAny};
 ghost use Rattle.pack.specs.Kept.{Kept};
-ghost use Rattle.commands.specs.Words.{sumTo, cellWord, heatRaised, packWord, sentWord, saidOf, statusOf, raisedAndSwitches, Bounded};
+ghost use Rattle.sent.specs.Words.{sumTo, cellWord, heatRaised, packWord, sentWord, saidOf, statusOf, raisedAndSwitches, Bounded};
 use commands::PackWord;
 use commands::Sends;
 use laws::has_bit;

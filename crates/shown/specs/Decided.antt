@@ -1,4 +1,4 @@
--- What the pack shows after a load and a list of calls is what document 01 says of the page and the past. The second demand rests on this.
+-- What the state of a page and a past shows is what document 01 says of them. The second demand rests on this.
 -- Assumes nothing.
 use mathlib.Core.Path.{_≡_, refl, ap, _∙_}
 use mathlib.Core.Bool.{Bool, cond}
@@ -10,11 +10,8 @@ use Rattle.protections.specs.Table.{protections}
 use Rattle.raised.specs.Words.{raisedAfter, raisedWord, raisedBits, raisedBits-is, blocksAny-is, raisedWord-has}
 use Rattle.settings.specs.declared.Settings.{Settings}
 use Rattle.wishes.specs.Wants.{isCharging}
-use Rattle.pack.specs.Events.{Event}
 use Rattle.state.specs.Past.{Past}
 use Rattle.state.specs.State.{balanceAfter, stateOf, anySample, latestOf}
-use Rattle.pack.specs.Kept.{pageOf, pastAfter, stateAfter}
-use Rattle.pack.specs.After.{after, after-is}
 use Rattle.shown.specs.Shown.{switchAfter, switchesWord, modeOrder, firstMode, flowMode, modeAfter, decisionAfter, decision, switchOn, switchesOf, modeOf, decisionOf}
 
 -- The order of modes has only numbers of protections.
@@ -64,8 +61,3 @@ module _ (page : Settings) (p : Past) where
   pub decision-is : decisionOf (stateOf page p) ≡ decisionAfter page p
   unfolding decisionOf decisionAfter stateOf balanceAfter
   decision-is = decision-same raised-is switches-is mode-is
-
--- After any load and calls, the decision is document 01's.
-pub decided : (bytes : List ℕ) (es : List Event) → decisionOf (after bytes es) ≡ decisionAfter (pageOf bytes) (pastAfter bytes es)
-unfolding stateAfter
-decided bytes es = ap decisionOf (after-is bytes es) ∙ decision-is (pageOf bytes) (pastAfter bytes es)

@@ -23,7 +23,7 @@ use Rattle.samples.specs.Samples.{cellsFit, sampleRefusals, sampleVerdict}
 use Rattle.settings.specs.Cases.{worked}
 use Rattle.state.specs.Past.{past}
 use Rattle.commands.specs.Table.{table, rowOf}
-use Rattle.commands.specs.Words.{packWord, sentWord, wordAfter}
+use Rattle.sent.specs.Words.{packWord, sentWord, wordAfter}
 use Rattle.bus.specs.Replies.{notInTable, cellAbove, replyRefusals, repliedFor, frameOf, repliedAfter, bufferAfter}
 use Rattle.starred.specs.EverySecond.{only, everySecond, bled-every-second}
 

@@ -10,14 +10,14 @@ mul-at c = search needs
 byte-at-requires : tie.Need-byte-at-requires
 byte-at-requires c κs = search needs
 
-wide-requires : tie.Need-wide-requires
-wide-requires c κs = search needs
-
 add-byte-at : tie.Need-add-byte-at
 add-byte-at c = search needs
 
 byte-at-requires-2 : tie.Need-byte-at-requires-2
 byte-at-requires-2 c κs = search needs
+
+wide-requires : tie.Need-wide-requires
+wide-requires c κs = search needs
 
 wide-requires-2 : tie.Need-wide-requires-2
 wide-requires-2 c κs = search needs
@@ -30,7 +30,7 @@ add-result c = search needs
 
 returns : tie.Need-returns
 unfolding wordAt
-returns c = rw (c .before .before .wide .ensures .0, c .wide2 .ensures .0, c .before .before .before .byte-at .ensures, c .before .byte-at2 .ensures)
+returns c = rw (c .before .wide .ensures .0, c .wide2 .ensures .0, c .before .before .before .byte-at .ensures, c .before .before .byte-at2 .ensures)
 
 pub word-spec : {M : Type 1} → statement M
 word-spec =
@@ -38,9 +38,9 @@ word-spec =
     (tie.spec
     mul-at
     byte-at-requires
-    wide-requires
     add-byte-at
     byte-at-requires-2
+    wide-requires
     wide-requires-2
     mul-result
     add-result

@@ -1,5 +1,5 @@
 -- `sent::cell_word` meets its contract. Assumes nothing.
-use Rattle.commands.specs.Words.{cell-zero, cell-past, cell-there}
+use Rattle.sent.specs.Words.{cell-zero, cell-past, cell-there}
 use borrow.Author.Needs.{needs}
 use Rattle.sent.proofs.cell_word.Statement.{statement}
 use Rattle.sent.proofs.cell_word.Tie as tie

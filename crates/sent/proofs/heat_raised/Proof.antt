@@ -1,5 +1,5 @@
 -- `sent::heat_raised` meets its contract. Assumes nothing.
-use Rattle.commands.specs.Words.{heatRaised}
+use Rattle.sent.specs.Words.{heatRaised}
 use borrow.Author.Needs.{needs}
 use Rattle.sent.proofs.heat_raised.Statement.{statement}
 use Rattle.sent.proofs.heat_raised.Tie as tie

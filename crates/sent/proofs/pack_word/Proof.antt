@@ -1,5 +1,5 @@
 -- `sent::pack_word` meets its contract. Assumes nothing.
-use Rattle.commands.specs.Words.{packWord}
+use Rattle.sent.specs.Words.{packWord}
 use mir.Facts.{toZ-ofZ}
 use mir.Syntax.{w16}
 use borrow.Author.Needs.{needs}

@@ -1,5 +1,5 @@
 -- `sent::raised_and_switches` meets its contract. Assumes nothing.
-use Rattle.commands.specs.Words.{withSwitches}
+use Rattle.sent.specs.Words.{withSwitches}
 use borrow.Author.Needs.{needs}
 use Rattle.sent.proofs.raised_and_switches.Statement.{statement}
 use Rattle.sent.proofs.raised_and_switches.Tie as tie

@@ -1,6 +1,6 @@
 -- `sent::sent_word` meets its contract. Assumes nothing.
-use Rattle.commands.specs.Words.{sentWord}
-use Rattle.commands.specs.Bounds.{kept-bounded}
+use Rattle.sent.specs.Words.{sentWord}
+use Rattle.sent.specs.Bounds.{kept-bounded}
 use borrow.Author.Needs.{needs}
 use Rattle.sent.proofs.sent_word.Statement.{statement}
 use Rattle.sent.proofs.sent_word.Tie as tie

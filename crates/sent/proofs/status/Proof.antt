@@ -1,5 +1,5 @@
 -- `sent::status` meets its contract. Assumes nothing.
-use Rattle.commands.specs.Words.{heatRaised, saidOf, status-built}
+use Rattle.sent.specs.Words.{heatRaised, saidOf, status-built}
 use Rattle.laws.specs.Bits.{hasBit}
 use Rattle.wishes.specs.Wants.{isCharging}
 use mathlib.Core.Path.{ap, ap₂, _∙_}

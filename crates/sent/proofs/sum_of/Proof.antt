@@ -1,5 +1,5 @@
 -- `sent::sum_of` meets its contract. The loop's invariant: `sum` is the sum of the first `i` cells. Assumes nothing.
-use Rattle.commands.specs.Words.{sumTo, sum-none, sum-next}
+use Rattle.sent.specs.Words.{sumTo, sum-none, sum-next}
 use Rattle.quantities.specs.Cells.{looked-most}
 use Prim.Native.Nat.{_-_, _*_, _≤_}
 use mathlib.Core.Path.{_≡_, ap, _∙_}

@@ -14,7 +14,7 @@ use Rattle.pack.specs.Answers.{offered, commanded}
 use Rattle.pack.specs.Kept.{pageOf, pastAfter, stateAfter, afterLoad}
 use Rattle.shown.specs.Shown.{decisionAfter}
 use Rattle.pack.specs.After.{after, after-is}
-use Rattle.shown.specs.Decided.{decided}
+use Rattle.demands.specs.Demands.{demand-2-decision}
 use Rattle.entries.specs.declared.Kind.{Kind}
 use Rattle.entries.specs.declared.Kind.the-variants.{Offer, Command, Malformed}
 use Rattle.entries.specs.declared.Entry.{Entry}
@@ -61,7 +61,7 @@ module _ (page : List ℕ) where
   cells-are es = ap (λ (p : Pack). p .rules .n) (after-is page es)
 
   told-is : (v : Verdict) (es : List Event) → toldBy v (after page es) ≡ saidOf v es
-  told-is verdict.Accepted es = ap Decided (decided page es)
+  told-is verdict.Accepted es = ap Decided (demand-2-decision page es)
   told-is (verdict.Refused number word) es = refl
 
   turn-is : (k : Kind) (es : List Event) (e : Entry)

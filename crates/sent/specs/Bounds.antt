@@ -23,7 +23,7 @@ use Rattle.pack.specs.Events.{Event, offer, command, accepts, withEvent, pastOf
 use Rattle.state.specs.State.{latestOf, stateOf}
 use Rattle.pack.specs.Kept.{Kept, pageOf, stateAfter}
 use Rattle.pack.specs.Calls.{page-good}
-use Rattle.commands.specs.Words.{sumTo, sumOf, Bounded}
+use Rattle.sent.specs.Words.{sumTo, sumOf, Bounded}
 
 -- Cells that fit are 6000 mV at most.
 fits-most : (cells : List MilliVolts) (k : ℕ) → cellsFit cells k ≡ true → (i : ℕ) → i < k → getD cells i noVolts .0 ≤ 6000

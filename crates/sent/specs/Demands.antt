@@ -29,12 +29,12 @@ use Rattle.shown.specs.Shown.{switchAfter, switchesWord}
 use Rattle.pack.specs.Calls.{page-accepted}
 use Rattle.pack.specs.After.{after, after-is}
 use Rattle.shown.specs.Decided.{switches-is, raised-is, mode-is}
 use Rattle.commands.specs.declared.Sends.{Sends}
 use Rattle.commands.specs.declared.Sends.the-variants.{Nothing, Cell, Whole}
 use Rattle.commands.specs.declared.PackWord.{PackWord}
 use Rattle.commands.specs.declared.PackWord.the-variants.{Temperature1, Temperature2, Sum, Current, ChargingCurrent, ChargingVoltage, Status, Mode, Raised, Bled}
 use Rattle.commands.specs.Table.{table, rowOf}
-use Rattle.commands.specs.Words.{heatRaised, statusWord, statusOf, withSwitches, packWord, sentWord, saidAfter, wordAfter, saidOf}
+use Rattle.sent.specs.Words.{heatRaised, statusWord, statusOf, withSwitches, packWord, sentWord, saidAfter, wordAfter, saidOf}
 
 -- ---- the words
 

@@ -29,8 +29,8 @@ use Rattle.settings.specs.declared.Settings.{Settings}
 use Rattle.pack.specs.Events.{Event, offer, command, withEvent, pastOf}
 use Rattle.state.specs.State.{wishAt, wishesOf, bledAfter}
 use Rattle.shown.specs.Shown.{modeOrder, firstMode, modeAfter}
 use Rattle.commands.specs.Table.{table, rowOf}
-use Rattle.commands.specs.Words.{sumTo, cellWord, heatRaised, statusWord, withSwitches, packWord, sentWord, wordAfter}
+use Rattle.sent.specs.Words.{sumTo, cellWord, heatRaised, statusWord, withSwitches, packWord, sentWord, wordAfter}
 
 -- ---- battery status, each bit by itself, beside 0x0080
 

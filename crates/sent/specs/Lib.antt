@@ -1,0 +1,4 @@
+pub mod Words
+pub mod Bounds
+pub mod Demands
+pub mod Cases
