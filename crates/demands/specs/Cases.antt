@@ -35,7 +35,7 @@ use Rattle.quantities.specs.declared.Sample.{Sample}
 use Rattle.settings.specs.declared.Rules.{Rules}
 use Rattle.settings.specs.declared.Settings.{Settings}
 use Rattle.settings.specs.declared.Loaded.{Loaded}
-use Rattle.settings.specs.Settings.{inDegrees, tripLevel, releaseLevel, limitsAt, limitsOf, rulesOf, settingsOf, noSettings, loadedOf}
+use Rattle.settings.specs.Settings.{inDegrees, sampleLevel, limitsAt, limitsOf, rulesOf, settingsOf, noSettings, loadedOf}
 use Rattle.settings.specs.Cases.{workedRules, worked, worked-loaded}
 use Rattle.state.specs.declared.Pack.{Pack}
 use Rattle.pack.specs.declared.Answered.{Answered}
@@ -248,7 +248,7 @@ pub worked-is : pageOf workedPage ≡ worked
 worked-is = ap (λ (l : Loaded). l .settings) worked-loaded
 
 pub three-is : loadedOf threePage ≡ record { verdict = Accepted; settings = three }
-unfolding loadedOf settingsOf rulesOf limitsOf limitsAt tripLevel releaseLevel inDegrees levelOf signedOf judged refusals wordAt within degreesFit levelFits rowAt table checkByte remainder withByte timesXs timesX
+unfolding loadedOf settingsOf rulesOf limitsOf limitsAt sampleLevel inDegrees levelOf signedOf judged refusals wordAt within degreesFit levelFits rowAt table checkByte remainder withByte timesXs timesX
 three-is = refl
 
 -- ---- the third demand is not empty, and n samples are too few

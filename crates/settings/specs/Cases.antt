@@ -8,7 +8,6 @@ use Rattle.units.specs.Signed.{signedOf}
 use Rattle.crc.specs.CheckByte.{timesX, timesXs, withByte, remainder, checkByte}
 use Rattle.protections.specs.Table.{rowAt, table}
 use Rattle.protections.specs.declared.Limits.{Limits}
-use Rattle.protections.specs.declared.Direction.the-variants.{Above, Below}
 use Rattle.protections.specs.declared.Quantity.the-variants.{HighestCell, LowestCell, Current, Temperature1, Temperature2}
 use Rattle.ranges.specs.Ranges.{wordAt, within, degreesFit, levelFits, levelOf}
 use Rattle.page.specs.Page.{refusals, judged}
@@ -16,28 +15,24 @@ use Rattle.page.specs.Worked.{workedPage, minus}
 use Rattle.page.specs.declared.Verdict.the-variants.{Accepted, Refused}
 use Rattle.settings.specs.declared.Rules.{Rules}
 use Rattle.settings.specs.declared.Settings.{Settings}
-use Rattle.settings.specs.Settings.{inDegrees, tripLevel, releaseLevel, limitsAt, limitsOf, rulesOf, settingsOf, noSettings, loadedOf}
+use Rattle.settings.specs.Settings.{inDegrees, sampleLevel, limitsAt, limitsOf, rulesOf, settingsOf, noSettings, loadedOf}
 
 -- ---- levels
 
 abbrev levels : List ℤ
 levels =
-    tripLevel Temperature1 Above 25
-    ∷ releaseLevel Temperature1 Above 25
-    ∷ tripLevel Temperature2 Above (minus 40)
-    ∷ releaseLevel Temperature2 Above (minus 40)
-    ∷ tripLevel Temperature1 Below 120
-    ∷ releaseLevel Temperature1 Below 120
-    ∷ tripLevel HighestCell Above 4250
-    ∷ releaseLevel LowestCell Below 2600
-    ∷ tripLevel Current Below (minus 32768)
-    ∷ releaseLevel Current Below (minus 1)
+    sampleLevel Temperature1 25
+    ∷ sampleLevel Temperature2 (minus 40)
+    ∷ sampleLevel Temperature1 120
+    ∷ sampleLevel HighestCell 4250
+    ∷ sampleLevel LowestCell 2600
+    ∷ sampleLevel Current (minus 32768)
+    ∷ sampleLevel Current (minus 1)
     ∷ []
 
 -- 25 °C is 2980, -40 °C is 2330, 120 °C is 3930; cells are mV as they stand, currents signed.
-levels-are : levels
-    ≡ pos 2980 ∷ pos 2980 ∷ pos 2330 ∷ pos 2330 ∷ pos 3930 ∷ pos 3930 ∷ pos 4250 ∷ pos 2600 ∷ negsuc 32767 ∷ negsuc 0 ∷ []
-unfolding tripLevel releaseLevel inDegrees levelOf signedOf
+levels-are : levels ≡ pos 2980 ∷ pos 2330 ∷ pos 3930 ∷ pos 4250 ∷ pos 2600 ∷ negsuc 32767 ∷ negsuc 0 ∷ []
+unfolding sampleLevel inDegrees levelOf signedOf
 levels-are = refl
 
 -- ---- the worked page
@@ -75,7 +70,7 @@ worked =
     }
 
 pub worked-loaded : loadedOf workedPage ≡ record { verdict = Accepted; settings = worked }
-unfolding loadedOf settingsOf rulesOf limitsOf limitsAt tripLevel releaseLevel inDegrees levelOf signedOf judged refusals wordAt within degreesFit levelFits rowAt table checkByte remainder withByte timesXs timesX
+unfolding loadedOf settingsOf rulesOf limitsOf limitsAt sampleLevel inDegrees levelOf signedOf judged refusals wordAt within degreesFit levelFits rowAt table checkByte remainder withByte timesXs timesX
 worked-loaded = refl
 
 -- A refused page says nothing.

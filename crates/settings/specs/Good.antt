@@ -25,7 +25,7 @@ use Rattle.page.specs.Accepted.{InRange, Limited, accepted-ranges, accepted-lim
 use Rattle.page.specs.declared.Verdict.{Verdict}
 use Rattle.page.specs.declared.Verdict.the-variants.{Accepted, Refused}
 use Rattle.settings.specs.declared.Settings.{Settings}
-use Rattle.settings.specs.Settings.{inDegrees, tripLevel, releaseLevel, limitsAt, limitsOf, noLimits, rulesOf, settingsOf, loadedWith, loadedOf}
+use Rattle.settings.specs.Settings.{inDegrees, sampleLevel, limitsAt, limitsOf, noLimits, rulesOf, settingsOf, loadedWith, loadedOf}
 
 -- A number of low..high, where low is no less than 0.
 pub record Between (low high : ℕ) (z : ℤ) : Type 0 where
@@ -104,8 +104,8 @@ tenths-order Below a b p q h = tenths-less a b p q h
 
 -- Trip and release words in order stand for levels in order.
 level-order : (q : Quantity) (d : Direction) (x y : ℕ) → levelFits q x ≡ true → levelFits q y ≡ true
-    → inOrder d (levelOf q x) (levelOf q y) ≡ true → inOrder d (tripLevel q d x) (releaseLevel q d y) ≡ true
-unfolding levelFits levelOf inDegrees tripLevel releaseLevel
+    → inOrder d (levelOf q x) (levelOf q y) ≡ true → inOrder d (sampleLevel q x) (sampleLevel q y) ≡ true
+unfolding levelFits levelOf inDegrees sampleLevel
 level-order HighestCell d x y a b h = h
 level-order LowestCell d x y a b h = h
 level-order Current d x y a b h = h

@@ -8,7 +8,6 @@ use lib.IntN.{ℤ, pos, _+ℤ_, _*ℤ_}
 use Rattle.units.specs.Signed.{signedOf}
 use Rattle.protections.specs.Table.{rowAt, protections}
 use Rattle.protections.specs.declared.Limits.{Limits}
-use Rattle.protections.specs.declared.Direction.{Direction}
 use Rattle.protections.specs.declared.Quantity.{Quantity}
 use Rattle.protections.specs.declared.Quantity.the-variants.{HighestCell, LowestCell, Current, Temperature1, Temperature2}
 use Rattle.ranges.specs.Ranges.{wordAt, levelOf}
@@ -27,21 +26,17 @@ inDegrees Current = false
 inDegrees Temperature1 = true
 inDegrees Temperature2 = true
 
--- "C degrees stand for 10 × C + 2730 tenths": the trip level that the word x stands for, in the sample's unit.
-unfoldable pub tripLevel : Quantity → Direction → ℕ → ℤ
-tripLevel q d x = cond (inDegrees q) (pos 10 *ℤ levelOf q x +ℤ pos 2730) (levelOf q x)
-
--- The release level, by the same sentence.
-unfoldable pub releaseLevel : Quantity → Direction → ℕ → ℤ
-releaseLevel q d x = cond (inDegrees q) (pos 10 *ℤ levelOf q x +ℤ pos 2730) (levelOf q x)
+-- "C degrees stand for 10 × C + 2730 tenths": the trip or release level that the word x stands for, in the sample's unit.
+unfoldable pub sampleLevel : Quantity → ℕ → ℤ
+sampleLevel q x = cond (inDegrees q) (pos 10 *ℤ levelOf q x +ℤ pos 2730) (levelOf q x)
 
 -- What the page b says of protection p: "trip, release, N, M, switch mask".
 unfoldable pub limitsAt : List ℕ → ℕ → Limits
 limitsAt b p =
     let at = tripWord p in
     record {
-      trip = tripLevel (rowAt p .quantity) (rowAt p .direction) (wordAt b at);
-      release = releaseLevel (rowAt p .quantity) (rowAt p .direction) (wordAt b (at + 1));
+      trip = sampleLevel (rowAt p .quantity) (wordAt b at);
+      release = sampleLevel (rowAt p .quantity) (wordAt b (at + 1));
       n = wordAt b (at + 2);
       m = wordAt b (at + 3);
       mask = wordAt b (at + 4);

@@ -4,9 +4,8 @@ ghost use Prim.Native.Nat.{_≤_, _<_};
 ghost use Rattle.ranges.specs.Ranges.{wordAt};
 ghost use Rattle.page.specs.Page.{judged};
 ghost use Rattle.page.specs.declared.Verdict.the-variants.{Accepted};
-ghost use Rattle.settings.specs.Settings.{inDegrees, tripLevel, releaseLevel, limitsAt, noLimits, limitsOf, rulesOf, settingsOf, noSettings, loadedOf};
+ghost use Rattle.settings.specs.Settings.{inDegrees, sampleLevel, limitsAt, noLimits, limitsOf, rulesOf, settingsOf, noSettings, loadedOf};
 use page::Verdict;
-use protections::Direction;
 use protections::Limits;
 use protections::Quantity;
 use protections::row_of;
@@ -52,20 +51,9 @@ fn in_degrees(quantity: Quantity) -> bool
     }
 }
 
-// The trip level that a word stands for, in the sample's unit.
-fn trip_level(quantity: Quantity, direction: Direction, x: u16) -> i32
-    ensures { λ r. ⌜ r ≡ tripLevel quantity direction x ⌝ }
-{
-    let z = ranges::level(quantity, x);
-    if in_degrees(quantity) {
-        return 10 * z + 2730;
-    }
-    z
-}
-
-// The release level that a word stands for, in the sample's unit.
-fn release_level(quantity: Quantity, direction: Direction, x: u16) -> i32
-    ensures { λ r. ⌜ r ≡ releaseLevel quantity direction x ⌝ }
+// The trip or release level that a word stands for, in the sample's unit.
+fn sample_level(quantity: Quantity, x: u16) -> i32
+    ensures { λ r. ⌜ r ≡ sampleLevel quantity x ⌝ }
 {
     let z = ranges::level(quantity, x);
     if in_degrees(quantity) {
@@ -89,10 +77,9 @@ fn limits_at(page: &[u8], p: u8) -> Limits
 {
     let row = row_of(ProtectionNo(p));
     let quantity = row.quantity;
-    let direction = row.direction;
     let at = 16 + 5 * p;
-    let trip = trip_level(quantity, direction, ranges::word(page, at));
-    let release = release_level(quantity, direction, ranges::word(page, at + 1));
+    let trip = sample_level(quantity, ranges::word(page, at));
+    let release = sample_level(quantity, ranges::word(page, at + 1));
     let n = small(page, at + 2);
     let m = small(page, at + 3);
     let mask = small(page, at + 4);

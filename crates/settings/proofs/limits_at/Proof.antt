@@ -20,8 +20,8 @@ add-at c = search needs
 word-requires : tie.Need-word-requires
 word-requires c κs = search needs
 
-trip-level-requires : tie.Need-trip-level-requires
-trip-level-requires c κs = search needs
+sample-level-requires : tie.Need-sample-level-requires
+sample-level-requires c κs = search needs
 
 add-word : tie.Need-add-word
 add-word c = search needs
@@ -29,8 +29,8 @@ add-word c = search needs
 word-requires-2 : tie.Need-word-requires-2
 word-requires-2 c κs = search needs
 
-release-level-requires : tie.Need-release-level-requires
-release-level-requires c κs = search needs
+sample-level-requires-2 : tie.Need-sample-level-requires-2
+sample-level-requires-2 c κs = search needs
 
 add-small : tie.Need-add-small
 add-small c = search needs
@@ -54,10 +54,10 @@ returns : tie.Need-returns
 unfolding limitsAt
 returns c =
     rw (
-      toZ-ofZ {w = w32} (record { sfits = c .before .before .before .before .before .trip-level .ok }),
-      toZ-ofZ {w = w32} (record { sfits = c .before .before .before .release-level .ok }),
-      c .before .before .before .before .before .trip-level .ensures,
-      c .before .before .before .release-level .ensures,
+      toZ-ofZ {w = w32} (record { sfits = c .before .before .before .before .before .sample-level .ok }),
+      toZ-ofZ {w = w32} (record { sfits = c .before .before .before .sample-level2 .ok }),
+      c .before .before .before .before .before .sample-level .ensures,
+      c .before .before .before .sample-level2 .ensures,
       c .before .before .before .before .before .before .word .ensures,
       c .before .before .before .before .word2 .ensures,
       c .before .before .before .before .before .before .before .row-of .ensures,
@@ -74,10 +74,10 @@ limits-at-spec =
     mul-at
     add-at
     word-requires
-    trip-level-requires
+    sample-level-requires
     add-word
     word-requires-2
-    release-level-requires
+    sample-level-requires-2
     add-small
     small-requires
     add-small-2
