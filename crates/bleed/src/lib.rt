@@ -1,8 +1,8 @@
 // Which cells to bleed: the walk over the cells that want and do not rest.
 ghost use mathlib.Core.Path.{_≡_};
 ghost use Rattle.wishes.specs.Word.{inWord};
-ghost use Rattle.bleed.specs.Word.{withCellIf};
-ghost use Rattle.bleed.specs.Steps.{CellOf, Chosen, besideTaken, mayTake, takeOne};
+ghost use Rattle.walk.specs.Word.{withCellIf};
+ghost use Rattle.walk.specs.Steps.{CellOf, Chosen, besideTaken, mayTake, takeOne};
 use laws::has_bit;
 use laws::with_bit_if;
 use turns::next_start;

@@ -7,14 +7,9 @@ use Rattle.bus.proofs.frame.Reads as frame
 use Rattle.bus.proofs.frame.Kinds as frame-kinds
 use Rattle.bus.proofs.answer_to.Reads as answer-to
 use Rattle.bus.proofs.answer_to.Kinds as answer-to-kinds
-use Rattle.bus.proofs.word_of_command.Reads as word-of-command
-use Rattle.bus.proofs.word_of_command.Kinds as word-of-command-kinds
 
 frame-one : Unique 0 frame-kinds.ps frame-kinds.r frame.Post
 frame-one κs a x y s t p q = p ∙ sym q
 
 answer-to-one : Unique 0 answer-to-kinds.ps answer-to-kinds.r answer-to.Post
 answer-to-one κs a x y s t p q = p ∙ sym q
-
-word-of-command-one : Unique 0 word-of-command-kinds.ps word-of-command-kinds.r word-of-command.Post
-word-of-command-one κs a x y s t p q = p ∙ sym q

@@ -20,8 +20,6 @@ use Rattle.commands.specs.declared.Sends.the-variants.{Nothing, Cell, Whole}
 use Rattle.bus.specs.declared.Framed.{Framed}
 use Rattle.bus.specs.declared.Replied.{Replied}
 use Rattle.bus.specs.declared.Replied.the-variants.{Sent, Refused}
-use Rattle.bus.specs.declared.Told.{Told}
-use Rattle.bus.specs.declared.Told.the-variants.{Word, Refused as NotTold}
 use Rattle.commands.specs.Table.{rowOf}
 use Rattle.sent.specs.Words.{sentWord, wordAfter, saidOf}
 
@@ -98,13 +96,6 @@ repliedTo p c room = repliedFor (p .rules .n) (p .sampled) c room
 
 unfoldable pub bytesAfter : Pack → ℕ → List ℕ → List ℕ
 bytesAfter p c b = bytesFor (repliedTo p c (length b)) (frameOf c (sentWord (saidOf p) (rowOf c))) b
-
-abbrev pub toldBy : Replied → ℕ → Told
-toldBy Sent w = Word w
-toldBy (Refused number) w = NotTold number
-
-unfoldable pub toldTo : Pack → ℕ → Told
-toldTo p c = toldBy (repliedTo p c 3) (sentWord (saidOf p) (rowOf c))
 
 -- ---- what the code needs of them
 

@@ -1,11 +1,9 @@
-// The bus: whether a command is answered, with which word, and the three bytes of a word.
+// The bus: whether a command is answered, and the three bytes of a word.
 ghost use mathlib.Core.Path.{_≡_};
-ghost use Rattle.pack.specs.Kept.{Kept};
-ghost use Rattle.bus.specs.Replies.{notInTable, cellAbove, frameOf, repliedTo, toldTo};
+ghost use Rattle.bus.specs.Replies.{notInTable, cellAbove, frameOf, repliedTo};
 use commands::Sends;
 use commands::row_of_command;
 use crc::check_byte;
-use sent::sent_word;
 use state::Pack;
 
 // The three bytes of a reply.
@@ -18,12 +16,6 @@ pub struct Framed {
 // The answer to a command: three bytes stand in the buffer, or it is refused.
 pub enum Replied {
     Sent,
-    Refused { number: u8 },
-}
-
-// The word of a command by itself.
-pub enum Told {
-    Word(u16),
     Refused { number: u8 },
 }
 
@@ -87,16 +79,4 @@ pub fn answer_to(p: Pack, command: u8, room: usize) -> Replied
         return Replied::Sent;
     }
     Replied::Refused { number: 15 }
-}
-
-// The word of a command, where a buffer of three bytes would be answered with it.
-pub fn word_of_command(p: Pack, command: u8) -> Told
-    requires { ⌜ Kept p ⌝ }
-    ensures { λ r. ⌜ r ≡ toldTo p command ⌝ }
-{
-    let answer = answer_to(p, command, 3);
-    match answer {
-        Replied::Sent => Told::Word(sent_word(p, row_of_command(command))),
-        Replied::Refused { number } => Told::Refused { number: number },
-    }
 }

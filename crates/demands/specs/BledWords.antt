@@ -11,10 +11,10 @@ use Rattle.laws.specs.Latest.{lastAll, among}
 use Rattle.quantities.specs.declared.Sample.{Sample}
 use Rattle.settings.specs.declared.Settings.{Settings}
 use Rattle.settings.specs.Good.{Good}
-use Rattle.bleed.specs.Walk.{has}
-use Rattle.bleed.specs.History.{bleds}
+use Rattle.walk.specs.Walk.{has}
+use Rattle.walk.specs.History.{bleds}
 use Rattle.wishes.specs.Word.{inWord}
-use Rattle.bleed.specs.Balance.{bledWord, bledNow, bled-bit}
+use Rattle.walk.specs.Balance.{bledWord, bledNow, bled-bit}
 use Rattle.state.specs.State.{wishesOf, bledAfter}
 
 -- The bled words of a history, one for each accepted sample: what 0x46 showed after it.

@@ -18,11 +18,11 @@ use Rattle.guard.specs.Steps.{raised, protectionsOf, protectionOf, stepAllWith,
 use Rattle.raised.specs.Words.{bitsOf, anyOf, raisedBits, anyRaised, blocksOne, blocksAny, someRaised}
 use Rattle.wishes.specs.Wants.{wants}
 use Rattle.wishes.specs.Word.{inWord, wordTo}
-use Rattle.bleed.specs.History.{wantsCell}
-use Rattle.bleed.specs.Balance.{bledWord}
+use Rattle.walk.specs.History.{wantsCell}
+use Rattle.walk.specs.Balance.{bledWord}
 use Rattle.wishes.specs.Steps.{tenAtMost, cellOf, wishes, wantingWord}
 use Rattle.turns.specs.Steps.{nextCell, nextRun, nextRuns, runOf, rested, restingWord}
-use Rattle.bleed.specs.Steps.{chosenWord}
+use Rattle.walk.specs.Steps.{chosenWord}
 use Rattle.samples.specs.Samples.{cellsFit, sampleRefusals, sampleVerdict, commandRefusals, commandVerdict, keptCell, trimmed}
 use Rattle.units.specs.Signed.{signedOf}
 use Rattle.laws.specs.Latest.{lastAll, among}

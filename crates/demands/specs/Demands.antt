@@ -23,12 +23,12 @@ use Rattle.raised.specs.Words.{raisedWord-has}
 use Rattle.samples.specs.Samples.{sampleRefusals, sampleVerdict, commandRefusals, commandVerdict}
 use Rattle.settings.specs.declared.Settings.{Settings}
 use Rattle.settings.specs.Good.{Good, accepted-good}
-use Rattle.bleed.specs.Walk.{has}
-use Rattle.bleed.specs.History.{bleds}
+use Rattle.walk.specs.Walk.{has}
+use Rattle.walk.specs.History.{bleds}
 use Rattle.wishes.specs.Word.{inWord}
-use Rattle.bleed.specs.History.{wantsCell}
-use Rattle.bleed.specs.Demand.{fair-anywhere, never-over-R}
-use Rattle.bleed.specs.Balance.{bled-few, bled-apart}
+use Rattle.walk.specs.History.{wantsCell}
+use Rattle.walk.specs.Demand.{fair-anywhere, never-over-R}
+use Rattle.walk.specs.Balance.{bled-few, bled-apart}
 use Rattle.state.specs.declared.Pack.{Pack}
 use Rattle.shown.specs.declared.Decision.{Decision}
 use Rattle.pack.specs.Events.{Event}

@@ -24,12 +24,12 @@ use Rattle.quantities.specs.Cells.{noVolts, lowest, lowest-among, extremesOf, e
 use Rattle.settings.specs.declared.Settings.{Settings}
 use Rattle.settings.specs.Good.{Good, accepted-good}
 use Rattle.page.specs.Page.{judged}
-use Rattle.bleed.specs.Demand.{bleds-drop}
+use Rattle.walk.specs.Demand.{bleds-drop}
 use Rattle.pack.specs.Kept.{pageOf, pastAfter}
 use Rattle.pack.specs.Calls.{page-accepted}
-use Rattle.bleed.specs.Walk.{has, neighbours, hasNeighbour, chosen}
-use Rattle.bleed.specs.WalkLaws.{only-wanting, only-cells, no-waste}
-use Rattle.bleed.specs.History.{wantsCell, resting, startCell, bleds}
+use Rattle.walk.specs.Walk.{has, neighbours, hasNeighbour, chosen}
+use Rattle.walk.specs.WalkLaws.{only-wanting, only-cells, no-waste}
+use Rattle.walk.specs.History.{wantsCell, resting, startCell, bleds}
 use Rattle.wishes.specs.Wants.{wants}
 use Rattle.wishes.specs.Steps.{wishes, cellOf}
 use Rattle.wishes.specs.Word.{inWord}

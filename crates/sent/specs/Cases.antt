@@ -19,10 +19,10 @@ use Rattle.guard.specs.Cases.{limited}
 use Rattle.quantities.specs.Measure.{measure}
 use Rattle.guard.specs.Steps.{raised}
 use Rattle.raised.specs.Words.{bitsOf, anyOf, raisedWord, someRaised, blocked}
-use Rattle.bleed.specs.Balance.{bledWord}
+use Rattle.walk.specs.Balance.{bledWord}
 use Rattle.wishes.specs.Steps.{cellOf, wishes}
 use Rattle.wishes.specs.Wants.{wants}
-use Rattle.bleed.specs.Word.{withCellIf}
+use Rattle.walk.specs.Word.{withCellIf}
 use Rattle.samples.specs.Samples.{cellsFit, keptCell, trimmed, sampleRefusals, sampleVerdict, commandRefusals, commandVerdict}
 use Rattle.settings.specs.declared.Rules.{Rules}
 use Rattle.settings.specs.declared.Settings.{Settings}

@@ -18,7 +18,7 @@ use Rattle.page.specs.declared.Verdict.the-variants.{Accepted}
 use Rattle.raised.specs.Words.{raisedAfter, blocksAny-is, raisedWord-has}
 use Rattle.settings.specs.declared.Settings.{Settings}
 use Rattle.settings.specs.Settings.{rulesOf, settingsOf}
-use Rattle.bleed.specs.Balance.{bled-few}
+use Rattle.walk.specs.Balance.{bled-few}
 use Rattle.state.specs.declared.Pack.{Pack}
 use Rattle.quantities.specs.declared.Sample.{Sample}
 use Rattle.pack.specs.Events.{Event}

@@ -16,9 +16,9 @@ use Rattle.page.specs.declared.Verdict.{Verdict}
 use Rattle.page.specs.declared.Verdict.the-variants.{Accepted, Refused}
 use Rattle.quantities.specs.Cases.{minus, sampled}
 use Rattle.guard.specs.Cases.{limited, high, fromHistory, starred-history}
-use Rattle.bleed.specs.Walk.{has}
-use Rattle.bleed.specs.History.{bleds}
-use Rattle.bleed.specs.Cases.{bled, starred-walk, every-second}
+use Rattle.walk.specs.Walk.{has}
+use Rattle.walk.specs.History.{bleds}
+use Rattle.walk.specs.Cases.{bled, starred-walk, every-second}
 use Rattle.samples.specs.Samples.{cellsFit, sampleRefusals, sampleVerdict}
 use Rattle.settings.specs.Cases.{worked}
 use Rattle.state.specs.Past.{past}

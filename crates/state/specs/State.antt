@@ -18,10 +18,10 @@ use Rattle.settings.specs.declared.Settings.{Settings}
 use Rattle.wishes.specs.Wants.{isCharging}
 use Rattle.wishes.specs.Steps.{wishes, wantingWord}
 use Rattle.turns.specs.Steps.{nextCell, nextRuns, restingWord}
-use Rattle.bleed.specs.Steps.{chosenWord, CellOf}
-use Rattle.bleed.specs.History.{bleds, resting, startCell}
+use Rattle.walk.specs.Steps.{chosenWord, CellOf}
+use Rattle.walk.specs.History.{bleds, resting, startCell}
 use Rattle.wishes.specs.Word.{wordTo}
-use Rattle.bleed.specs.Balance.{runsOf, bledWord}
+use Rattle.walk.specs.Balance.{runsOf, bledWord}
 use Rattle.state.specs.declared.Balance.{Balance}
 use Rattle.state.specs.declared.Pack.{Pack}
 use Rattle.state.specs.Past.{Past}

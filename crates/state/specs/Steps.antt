@@ -18,13 +18,13 @@ use Rattle.guard.specs.Steps.{AllGood, protectionsOf, protections-step, protect
 use Rattle.raised.specs.Words.{anyRaised-is}
 use Rattle.settings.specs.declared.Settings.{Settings}
 use Rattle.settings.specs.Good.{Good}
-use Rattle.bleed.specs.History.{bleds, resting, startCell}
+use Rattle.walk.specs.History.{bleds, resting, startCell}
 use Rattle.wishes.specs.Word.{wordTo}
 use Rattle.turns.specs.Steps.{nextRuns, rested, restingWord}
-use Rattle.bleed.specs.Steps.{chosenWord}
+use Rattle.walk.specs.Steps.{chosenWord}
 use Rattle.wishes.specs.StepLaws.{ten-is}
 use Rattle.turns.specs.StepLaws.{none-rest}
-use Rattle.bleed.specs.Balance.{runsOf, bledWord, Shows, wanting-shows, start-cell, next-start-is, rested-is, choose-is, runs-are, runs-idle}
+use Rattle.walk.specs.Balance.{runsOf, bledWord, Shows, wanting-shows, start-cell, next-start-is, rested-is, choose-is, runs-are, runs-idle}
 use Rattle.settings.specs.declared.Rules.{Rules}
 use Rattle.state.specs.declared.Balance.{Balance}
 use Rattle.state.specs.declared.Pack.{Pack}

@@ -1,7 +1,7 @@
 // The state of a pack: what it holds, and one accepted sample on.
 ghost use mathlib.Core.Path.{_≡_};
 ghost use Rattle.turns.specs.Steps.{restingWord};
-ghost use Rattle.bleed.specs.Steps.{CellOf};
+ghost use Rattle.walk.specs.Steps.{CellOf};
 ghost use Rattle.state.specs.State.{nextTick, wantWith, nextBalance, Ready, acceptedPack};
 use alarms::step_all;
 use bleed::choose;

@@ -4,16 +4,11 @@ use mathlib.Core.Path.{sym, _∙_}
 use Rattle.laws.specs.Unique.{Unique}
 use Rattle.wishes.proofs.is_charging.Reads as is-charging
 use Rattle.wishes.proofs.is_charging.Kinds as is-charging-kinds
-use Rattle.wishes.proofs.wants_one.Reads as wants-one
-use Rattle.wishes.proofs.wants_one.Kinds as wants-one-kinds
 use Rattle.wishes.proofs.wanting.Reads as wanting
 use Rattle.wishes.proofs.wanting.Kinds as wanting-kinds
 
 is-charging-one : Unique 0 is-charging-kinds.ps is-charging-kinds.r is-charging.Post
 is-charging-one κs a x y s t p q = p ∙ sym q
-
-wants-one-one : Unique 0 wants-one-kinds.ps wants-one-kinds.r wants-one.Post
-wants-one-one κs a x y s t p q = p ∙ sym q
 
 wanting-one : Unique 0 wanting-kinds.ps wanting-kinds.r wanting.Post
 wanting-one κs a x y s t p q = p ∙ sym q

@@ -13,7 +13,7 @@ pub fn is_charging(detection: i16, current: i16) -> bool
 }
 
 // One cell's wish. The lowest cell and the difference may come to more than 16 bits hold.
-pub fn wants_one(
+fn wants_one(
     charging: bool,
     raised: bool,
     floor: MilliVolts,

@@ -3,7 +3,7 @@ use borrow.Author.Needs.{needs}
 use borrow.Author.Tests.{lt-ltb, le-ltb}
 use mathlib.Core.Path.{sym, _∙_}
 use mathlib.Core.Logic.{⊎-elim}
-use Rattle.bleed.specs.Steps.{besideTaken}
+use Rattle.walk.specs.Steps.{besideTaken}
 use Rattle.bleed.proofs.beside_taken.Statement.{statement}
 use Rattle.bleed.proofs.beside_taken.Tie as tie
 

@@ -4,8 +4,8 @@
 use mathlib.Core.Path.{_≡_, refl, sym, _∙_}
 use native.Mathlib.Omega.{arith}
 use borrow.Author.Needs.{needs}
-use Rattle.bleed.specs.Steps.{takeFrom}
-use Rattle.bleed.specs.StepLaws.{take-on, take-none, chosen-is, chosen-meets, chosen-none}
+use Rattle.walk.specs.Steps.{takeFrom}
+use Rattle.walk.specs.StepLaws.{take-on, take-none, chosen-is, chosen-meets, chosen-none}
 use Rattle.bleed.proofs.choose.Statement.{statement}
 use Rattle.bleed.proofs.choose.Tie as tie
 

@@ -1,7 +1,7 @@
 -- `bleed::may_take` meets its contract: a test that fails ends it, and the count of ones is the answer. Assumes nothing.
 use borrow.Author.Needs.{needs}
 use mathlib.Core.Path.{sym, _∙_}
-use Rattle.bleed.specs.Steps.{mayTake}
+use Rattle.walk.specs.Steps.{mayTake}
 use Rattle.bleed.proofs.may_take.Statement.{statement}
 use Rattle.bleed.proofs.may_take.Tie as tie
 

@@ -1,7 +1,7 @@
 -- `bleed::take_one` meets its contract. Assumes nothing.
 use borrow.Author.Needs.{needs}
 use mathlib.Core.Path.{sym}
-use Rattle.bleed.specs.Steps.{takeOne}
+use Rattle.walk.specs.Steps.{takeOne}
 use Rattle.bleed.proofs.take_one.Statement.{statement}
 use Rattle.bleed.proofs.take_one.Tie as tie
 

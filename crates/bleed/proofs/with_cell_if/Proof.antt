@@ -1,7 +1,7 @@
 -- `bleed::with_cell_if` meets its contract. Assumes nothing.
 use borrow.Author.Needs.{needs}
 use borrow.Author.Tests.{lt-ltb, le-ltb}
-use Rattle.bleed.specs.Word.{withCellIf}
+use Rattle.walk.specs.Word.{withCellIf}
 use Rattle.bleed.proofs.with_cell_if.Statement.{statement}
 use Rattle.bleed.proofs.with_cell_if.Tie as tie
 

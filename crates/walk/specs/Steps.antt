@@ -8,8 +8,8 @@ use lib.Count.{ones}
 use Rattle.laws.specs.Bits.{hasBit}
 use Rattle.wishes.specs.Word.{inWord}
 use Rattle.turns.specs.Steps.{nextCell}
-use Rattle.bleed.specs.Walk.{chosen}
-use Rattle.bleed.specs.Word.{withCellIf, wordOf}
+use Rattle.walk.specs.Walk.{chosen}
+use Rattle.walk.specs.Word.{withCellIf, wordOf}
 
 -- The word of the walk's cells: which cells want and which rest are words too.
 unfoldable pub chosenWord : ℕ → ℕ → ℕ → ℕ → ℕ → ℕ

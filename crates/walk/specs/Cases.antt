@@ -14,9 +14,9 @@ use borrow.Author.Tests.{eqb-true}
 use Rattle.laws.specs.Tests.{and-left, and-right}
 use Rattle.laws.specs.Bits.{withBit}
 use Rattle.laws.specs.Latest.{lastAll, among}
-use Rattle.bleed.specs.Walk.{has, upFrom}
-use Rattle.bleed.specs.History.{wantsCell, bleds}
-use Rattle.bleed.specs.Word.{wordOf}
+use Rattle.walk.specs.Walk.{has, upFrom}
+use Rattle.walk.specs.History.{wantsCell, bleds}
+use Rattle.walk.specs.Word.{wordOf}
 
 -- The cells that want at each sample, in the order of time, as a history of wishes.
 abbrev pub history : List (List ℕ) → List (ℕ → Bool)

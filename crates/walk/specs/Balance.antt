@@ -24,12 +24,12 @@ use Rattle.wishes.specs.Steps.{wishes, wantingWord}
 use Rattle.wishes.specs.StepLaws.{ten-is}
 use Rattle.turns.specs.Steps.{nextCell, nextRun, nextRuns, runOf, rested, restingWord}
 use Rattle.turns.specs.StepLaws.{runs-none, run-goes-on}
-use Rattle.bleed.specs.Walk.{has, upFrom, order}
-use Rattle.bleed.specs.WalkLaws.{walk-same, order-only, only-cells}
-use Rattle.bleed.specs.History.{resting, startCell, bleds}
-use Rattle.bleed.specs.Demand.{run-short, never-more, never-neighbours}
-use Rattle.bleed.specs.Word.{wordOf, wordOf-bit, wordOf-few}
-use Rattle.bleed.specs.Steps.{chosenWord, CellOf}
+use Rattle.walk.specs.Walk.{has, upFrom, order}
+use Rattle.walk.specs.WalkLaws.{walk-same, order-only, only-cells}
+use Rattle.walk.specs.History.{resting, startCell, bleds}
+use Rattle.walk.specs.Demand.{run-short, never-more, never-neighbours}
+use Rattle.walk.specs.Word.{wordOf, wordOf-bit, wordOf-few}
+use Rattle.walk.specs.Steps.{chosenWord, CellOf}
 
 -- ---- the definitions
 

@@ -12,7 +12,7 @@ use lib.Count.{ones, onesIn}
 use borrow.Author.Tests.{eqb-true, eqb-false, eq-eqb}
 use Rattle.laws.specs.Tests.{by-test, or-left, or-right}
 use Rattle.laws.specs.Bits.{hasBit, withBit, withBitIf, has-zero, has-same, has-other, ones-with, ones-new}
-use Rattle.bleed.specs.Walk.{has}
+use Rattle.walk.specs.Walk.{has}
 
 -- The word with cell k in it where the test holds.
 unfoldable pub withCellIf : Bool → ℕ → ℕ → ℕ

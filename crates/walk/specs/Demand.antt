@@ -11,9 +11,9 @@ use lib.ListN.{length, drop, length-drop, getD}
 use borrow.Author.Tests.{not-true, leb-false}
 use Rattle.laws.specs.Tests.{by-test, clash, and-left, and-right}
 use Rattle.laws.specs.Latest.{lastAll, run, among, lastAll-run, lastAll-le, lastAll-length, among-le}
-use Rattle.bleed.specs.Walk.{has, chosen}
-use Rattle.bleed.specs.History.{wantsCell, resting, startCell, bleds}
-use Rattle.bleed.specs.WalkLaws.{at-most-K, no-neighbours, only-wanting, own-turn}
+use Rattle.walk.specs.Walk.{has, chosen}
+use Rattle.walk.specs.History.{wantsCell, resting, startCell, bleds}
+use Rattle.walk.specs.WalkLaws.{at-most-K, no-neighbours, only-wanting, own-turn}
 
 no-less : (b : Bool) (x : ℕ) → x ≤ cond b (suc x) x
 no-less true x = omega arith

@@ -10,7 +10,7 @@ use lib.Dec.{leb, ltb, eqb}
 use lib.ListN.{length}
 use borrow.Author.Tests.{not-true, lt-ltb, eq-eqb, eqb-true, eqb-false, ltb-true, ltb-false, leb-true, leb-false}
 use Rattle.laws.specs.Tests.{by-test, clash, and-left, and-right, or-left, or-right, or-cases}
-use Rattle.bleed.specs.Walk.{has, neighbours, hasNeighbour, upFrom, order, takes, walk, chosen}
+use Rattle.walk.specs.Walk.{has, neighbours, hasNeighbour, upFrom, order, takes, walk, chosen}
 
 -- A cell of the set that is a neighbour of k makes k have a neighbour there.
 pub neighbour-of : (k d : ℕ) (l : List ℕ) → has d l ≡ true → neighbours k d ≡ true → hasNeighbour k l ≡ true

@@ -6,7 +6,7 @@ use mathlib.Core.List.{List, [], _∷_}
 use Prim.Native.Nat.{ℕ, suc, _%_}
 use lib.ListN.{length}
 use Rattle.laws.specs.Latest.{lastAll}
-use Rattle.bleed.specs.Walk.{has, chosen}
+use Rattle.walk.specs.Walk.{has, chosen}
 
 -- Cell k wants bleeding.
 abbrev pub wantsCell : ℕ → (ℕ → Bool) → Bool

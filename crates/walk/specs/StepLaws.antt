@@ -15,10 +15,10 @@ use Rattle.laws.specs.Tests.{by-test, clash, test-ext, and-left, and-right, or-
 use Rattle.laws.specs.Bits.{withBitIf}
 use Rattle.wishes.specs.Word.{inWord, in-none}
 use Rattle.turns.specs.Steps.{nextCell}
-use Rattle.bleed.specs.Walk.{has, neighbours, hasNeighbour, upFrom, order, takes, walk, chosen}
-use Rattle.bleed.specs.WalkLaws.{neighbour-of, has-append, upFrom-only, order-only, at-most-K, no-neighbours, only-cells, walk-none}
-use Rattle.bleed.specs.Word.{withCellIf, wordOf, Small, Once, wordOf-bit, wordOf-ones, wordOf-few}
-use Rattle.bleed.specs.Steps.{chosenWord, CellOf, Chosen, besideTaken, mayTake, takeOne, takeFrom}
+use Rattle.walk.specs.Walk.{has, neighbours, hasNeighbour, upFrom, order, takes, walk, chosen}
+use Rattle.walk.specs.WalkLaws.{neighbour-of, has-append, upFrom-only, order-only, at-most-K, no-neighbours, only-cells, walk-none}
+use Rattle.walk.specs.Word.{withCellIf, wordOf, Small, Once, wordOf-bit, wordOf-ones, wordOf-few}
+use Rattle.walk.specs.Steps.{chosenWord, CellOf, Chosen, besideTaken, mayTake, takeOne, takeFrom}
 
 -- ---- the order of the walk is the next cell, again and again
 
