@@ -235,7 +235,11 @@ cases = replay ∷ limitCases ∷ countCases ∷ commandCases ∷ pagelessCases 
 
 -- Every case gives what it is to give.
 pub cases-pass : gotten cases ≡ wanted cases
-unfolding freshPack freshBalance offered commanded withCommand acceptedPack nextBalance wantWith nextTick decisionOf switchesOf modeOf modeOrder firstMode sampleVerdict sampleRefusals cellsFit commandVerdict commandRefusals trimmed keptCell within protectionsOf protectionOf stepAllWith stepWith stepOne listOf listFrom eachTo extremesOf bestOf rowAt table raisedBits anyRaised blocksAny blocksOne bitsOf anyOf hasBit withBit withBitIf wants inWord wordTo tenAtMost cellOf runOf wishes wantingWord rested restingWord nextCell nextRun nextRuns chosenWord noSettings
+unfolding freshPack freshBalance offered commanded withCommand acceptedPack nextBalance wantWith nextTick decisionOf switchesOf modeOf
+    modeOrder firstMode sampleVerdict sampleRefusals cellsFit commandVerdict commandRefusals trimmed keptCell within protectionsOf
+    protectionOf stepAllWith stepWith stepOne listOf listFrom eachTo extremesOf bestOf rowAt table raisedBits anyRaised blocksAny blocksOne
+    bitsOf anyOf hasBit withBit withBitIf wants inWord wordTo tenAtMost cellOf runOf wishes wantingWord rested restingWord nextCell nextRun
+    nextRuns chosenWord noSettings
 cases-pass = refl
 
 -- ---- the pages of these cases are accepted
@@ -248,7 +252,8 @@ pub worked-is : pageOf workedPage ≡ worked
 worked-is = ap (λ (l : Loaded). l .settings) worked-loaded
 
 pub three-is : loadedOf threePage ≡ record { verdict = Accepted; settings = three }
-unfolding loadedOf settingsOf rulesOf limitsOf limitsAt sampleLevel inDegrees levelOf signedOf judged refusals wordAt within degreesFit levelFits rowAt table checkByte remainder withByte timesXs timesX
+unfolding loadedOf settingsOf rulesOf limitsOf limitsAt sampleLevel inDegrees levelOf signedOf judged refusals wordAt within degreesFit
+    levelFits rowAt table checkByte remainder withByte timesXs timesX
 three-is = refl
 
 -- ---- the third demand is not empty, and n samples are too few
@@ -264,10 +269,12 @@ waited = kept (oneTwo ∷ oneThree ∷ oneTwo ∷ oneThree ∷ oneTwo ∷ quiet 
 
 -- Cell 1 wants at the last four samples, n + 1, and is bled at the last of them; at the three before, n of them, it gets nothing.
 pub four-wait : (lastAll 4 (wantsCell 1) (wishesOf three waited) ≡ true) × (among 4 (λ w. inWord w 1) (bledWords three waited) ≡ 1)
-unfolding wishesOf wishAt someRaised raised bledAfter bledWord measure extremesOf bestOf rowAt table anyOf hasBit withBit withBitIf wants wishes cellOf inWord
+unfolding wishesOf wishAt someRaised raised bledAfter bledWord measure extremesOf bestOf rowAt table anyOf hasBit withBit withBitIf wants
+    wishes cellOf inWord
 four-wait = (refl, refl)
 
 pub three-too-few : (lastAll 3 (wantsCell 1) (drop 1 (wishesOf three waited)) ≡ true)
     × (among 3 (λ w. inWord w 1) (drop 1 (bledWords three waited)) ≡ 0)
-unfolding wishesOf wishAt someRaised raised bledAfter bledWord measure extremesOf bestOf rowAt table anyOf hasBit withBit withBitIf wants wishes cellOf inWord
+unfolding wishesOf wishAt someRaised raised bledAfter bledWord measure extremesOf bestOf rowAt table anyOf hasBit withBit withBitIf wants
+    wishes cellOf inWord
 three-too-few = (refl, refl)

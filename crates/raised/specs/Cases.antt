@@ -60,5 +60,6 @@ abbrev fromArray : List Protection → Said
 fromArray ps = said (raisedBits ps) (blocksAny 0 ps) (blocksAny 1 ps)
 
 pub words-steps : fromArray (protectionsAfter page (seen 4260 (pos 900) 3330 ∷ seen 4250 (pos 0) 2980 ∷ [])) ≡ said 133 true true
-unfolding raisedBits blocksAny blocksOne bitsOf anyOf withBitIf withBit hasBit stepAllWith stepWith stepOne eachTo protectionsOf protectionOf listOf listFrom rowAt table extremesOf bestOf
+unfolding raisedBits blocksAny blocksOne bitsOf anyOf withBitIf withBit hasBit stepAllWith stepWith stepOne eachTo protectionsOf
+    protectionOf listOf listFrom rowAt table extremesOf bestOf
 words-steps = refl

@@ -109,13 +109,19 @@ all = 0x08 ∷ 0x44 ∷ 0x09 ∷ 0x42 ∷ 0x0A ∷ 0x14 ∷ 0x15 ∷ 0x16 ∷ 0x
 -- After the second sample cell 1 is bled, and both switches are on.
 pub second-sample : words replayed (two (pos 500) 2981 2999 4260 4100 ∷ two (pos 500) 2980 2980 4000 4020 ∷ command 3 ∷ []) all
     ≡ (2981 ∷ 2999 ∷ 8360 ∷ 8360 ∷ 500 ∷ 1500 ∷ 8400 ∷ 0x0080 ∷ 4260 ∷ 4100 ∷ 0 ∷ 0x03 ∷ 0x0300 ∷ 0x0001 ∷ [])
-unfolding wordAfter rowOf table sentWord packWord sumTo cellWord statusWord heatRaised withSwitches withBitIf withBit hasBit wordOf pastOf withEvent sampleVerdict sampleRefusals within cellsFit trimmed eachTo keptCell commandVerdict commandRefusals modeAfter firstMode modeOrder raisedWord blocked someRaised bitsOf anyOf raised rowAt rows measure extremesOf bestOf bledAfter bledWord wishesOf wishAt wishes cellOf wants withCellIf
+unfolding wordAfter rowOf table sentWord packWord sumTo cellWord statusWord heatRaised withSwitches withBitIf withBit hasBit wordOf pastOf
+    withEvent sampleVerdict sampleRefusals within cellsFit trimmed eachTo keptCell commandVerdict commandRefusals modeAfter firstMode
+    modeOrder raisedWord blocked someRaised bitsOf anyOf raised rowAt rows measure extremesOf bestOf bledAfter bledWord wishesOf wishAt
+    wishes cellOf wants withCellIf
 second-sample = refl
 
 -- After the third, protection 0 is raised and blocks charge: the charging words are 0.
 pub third-sample : words replayed first-three all
     ≡ (2980 ∷ 2980 ∷ 8360 ∷ 8360 ∷ 500 ∷ 0 ∷ 0 ∷ 0xC080 ∷ 4260 ∷ 4100 ∷ 0 ∷ 0x15 ∷ 0x0201 ∷ 0x0000 ∷ [])
-unfolding wordAfter rowOf table sentWord packWord sumTo cellWord statusWord heatRaised withSwitches withBitIf withBit hasBit wordOf pastOf withEvent sampleVerdict sampleRefusals within cellsFit trimmed eachTo keptCell commandVerdict commandRefusals modeAfter firstMode modeOrder raisedWord blocked someRaised bitsOf anyOf raised rowAt rows measure extremesOf bestOf bledAfter bledWord wishesOf wishAt wishes cellOf wants withCellIf
+unfolding wordAfter rowOf table sentWord packWord sumTo cellWord statusWord heatRaised withSwitches withBitIf withBit hasBit wordOf pastOf
+    withEvent sampleVerdict sampleRefusals within cellsFit trimmed eachTo keptCell commandVerdict commandRefusals modeAfter firstMode
+    modeOrder raisedWord blocked someRaised bitsOf anyOf raised rowAt rows measure extremesOf bestOf bledAfter bledWord wishesOf wishAt
+    wishes cellOf wants withCellIf
 third-sample = refl
 
 -- 0x45 before a switch command and after each; a refused command changes nothing, and no word but 0x45 follows one.
@@ -129,7 +135,9 @@ one-sample = two (pos 500) 2980 2980 4000 4000 ∷ []
 pub follows-commands
     : map (λ cs. wordAfter replayed (pastOf 2 (after-commands cs one-sample)) 0x45) ([] ∷ (1 ∷ []) ∷ (2 ∷ []) ∷ (3 ∷ []) ∷ (0 ∷ 3 ∷ []) ∷ (4 ∷ 3 ∷ []) ∷ [])
     ≡ (0x0000 ∷ 0x0100 ∷ 0x0200 ∷ 0x0300 ∷ 0x0000 ∷ 0x0300 ∷ [])
-unfolding wordAfter rowOf table sentWord packWord withSwitches withBitIf withBit hasBit pastOf withEvent sampleVerdict sampleRefusals within cellsFit trimmed eachTo keptCell commandVerdict commandRefusals raisedWord blocked bitsOf anyOf raised rowAt rows measure extremesOf bestOf
+unfolding wordAfter rowOf table sentWord packWord withSwitches withBitIf withBit hasBit pastOf withEvent sampleVerdict sampleRefusals within
+    cellsFit trimmed eachTo keptCell commandVerdict commandRefusals raisedWord blocked bitsOf anyOf raised rowAt rows measure extremesOf
+    bestOf
 follows-commands = refl
 
 -- ---- protections by themselves and together, N and M 1: 0 and 5 block charge, 1, 3 and 6 discharge, 4 both, 2 and 7 only report
@@ -176,7 +184,9 @@ pub by-themselves
     ∷ (0x1080 ∷ 0x16 ∷ 0x0380 ∷ 1500 ∷ [])
     ∷ (0xD880 ∷ 0x12 ∷ 0x00E5 ∷ 0 ∷ [])
     ∷ [])
-unfolding wordAfter rowOf table sentWord packWord statusWord heatRaised withSwitches withBitIf withBit hasBit wordOf pastOf withEvent sampleVerdict sampleRefusals within cellsFit trimmed eachTo keptCell commandVerdict commandRefusals modeAfter firstMode modeOrder raisedWord blocked bitsOf anyOf raised rowAt rows measure extremesOf bestOf
+unfolding wordAfter rowOf table sentWord packWord statusWord heatRaised withSwitches withBitIf withBit hasBit wordOf pastOf withEvent
+    sampleVerdict sampleRefusals within cellsFit trimmed eachTo keptCell commandVerdict commandRefusals modeAfter firstMode modeOrder
+    raisedWord blocked bitsOf anyOf raised rowAt rows measure extremesOf bestOf
 by-themselves = refl
 
 -- ---- ten cells of 6000 mV: the sum and n × word 7 are 60000, and entries past n are no cells
@@ -186,10 +196,12 @@ ten-cells = 6000 ∷ 6000 ∷ 6000 ∷ 6000 ∷ 6000 ∷ 6000 ∷ 6000 ∷ 6000 
 
 pub largest : words (page-with 10 6000 (limited (pos 6000) (pos 5999) 2 2 0 ∷ never)) (offer (sampled 10 ten-cells (pos 0) 2980 2980) ∷ []) (0x09 ∷ 0x15 ∷ 0x39 ∷ [])
     ≡ (60000 ∷ 60000 ∷ 6000 ∷ [])
-unfolding wordAfter rowOf table sentWord packWord sumTo cellWord hasBit pastOf withEvent sampleVerdict sampleRefusals within cellsFit trimmed eachTo keptCell blocked anyOf raised rowAt rows measure extremesOf bestOf
+unfolding wordAfter rowOf table sentWord packWord sumTo cellWord hasBit pastOf withEvent sampleVerdict sampleRefusals within cellsFit
+    trimmed eachTo keptCell blocked anyOf raised rowAt rows measure extremesOf bestOf
 largest = refl
 
 pub past-the-count : words (page-with 3 6000 (limited (pos 6000) (pos 5999) 2 2 0 ∷ never)) (offer (sampled 3 ten-cells (pos 0) 2980 2980) ∷ []) (0x09 ∷ 0x15 ∷ 0x32 ∷ 0x33 ∷ [])
     ≡ (18000 ∷ 18000 ∷ 6000 ∷ 0 ∷ [])
-unfolding wordAfter rowOf table sentWord packWord sumTo cellWord hasBit pastOf withEvent sampleVerdict sampleRefusals within cellsFit trimmed eachTo keptCell blocked anyOf raised rowAt rows measure extremesOf bestOf
+unfolding wordAfter rowOf table sentWord packWord sumTo cellWord hasBit pastOf withEvent sampleVerdict sampleRefusals within cellsFit
+    trimmed eachTo keptCell blocked anyOf raised rowAt rows measure extremesOf bestOf
 past-the-count = refl

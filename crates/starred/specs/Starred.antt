@@ -110,7 +110,8 @@ backwards-page b e = rw (judged-is, e)
 
 -- Document 01's starred cases hold.
 pub all-starred : AllHold starred
-unfolding checkByte remainder withByte timesXs timesX bufferAfter repliedAfter repliedFor replyRefusals notInTable cellAbove rowOf table frameOf wordAfter sentWord packWord wordOf sampleVerdict sampleRefusals cellsFit within
+unfolding checkByte remainder withByte timesXs timesX bufferAfter repliedAfter repliedFor replyRefusals notInTable cellAbove rowOf table
+    frameOf wordAfter sentWord packWord wordOf sampleVerdict sampleRefusals cellsFit within
 all-starred = (
   (refl, refl, refl),
   (

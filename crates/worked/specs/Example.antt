@@ -56,5 +56,24 @@ abbrev pub pageLine : List ℕ
 pageLine = 112 ∷ 97 ∷ 103 ∷ 101 ∷ 9 ∷ 49 ∷ 9 ∷ 48 ∷ 10 ∷ []
 
 pub example : replayed page log ∷ replayed [] log ∷ [] ≡ written ∷ pageLine ∷ []
-unfolding laws-bits.hasBit laws-bits.withBitIf laws-each.eachTo units-signed.signedOf protections-table.rowAt crc-checkbyte.timesX crc-checkbyte.timesXs crc-checkbyte.withByte crc-checkbyte.remainder crc-checkbyte.checkByte text-decimal.decimal text-fields.fieldsOf text-finding.lacks numbers-numbers.digitsTo numbers-numbers.numberTo numbers-numbers.signedOf lines-lines.linesOf lines-output.answers lines-output.output ranges-ranges.wordAt ranges-ranges.within ranges-ranges.degreesFit ranges-ranges.levelFits ranges-ranges.levelOf page-page.refusals page-page.judged settings-settings.inDegrees settings-settings.sampleLevel settings-settings.limitsAt settings-settings.limitsOf settings-settings.rulesOf settings-settings.settingsOf settings-settings.noSettings settings-settings.loadedOf quantities-cells.bestOf quantities-cells.widen quantities-cells.extremesOf laws-numbered.listFrom laws-numbered.listOf guard-steps.raised guard-steps.protectionOf guard-steps.protectionsOf guard-steps.stepOne guard-steps.stepWith guard-steps.stepAllWith guard-steps.clear guard-steps.clearAt raised-words.bitsOf raised-words.anyOf raised-words.raisedBits raised-words.anyRaised raised-words.blocksOne raised-words.blocksAny wishes-steps.tenAtMost wishes-steps.cellOf turns-steps.runOf wishes-steps.wishes wishes-steps.wantingWord turns-steps.rested turns-steps.restingWord turns-steps.nextCell turns-steps.nextRun turns-steps.nextRuns walk-steps.chosenWord walk-steps.besideTaken walk-steps.mayTake walk-steps.takeOne walk-steps.takeFrom wishes-wants.wants wishes-word.inWord walk-word.withCellIf wishes-word.wordTo samples-samples.cellsFit samples-samples.sampleRefusals samples-samples.sampleVerdict samples-samples.commandRefusals samples-samples.commandVerdict samples-samples.keptCell samples-samples.trimmed pack-kept.afterLoad shown-shown.modeOrder shown-shown.firstMode shown-shown.switchesOf shown-shown.modeOf shown-shown.decisionOf state-state.nextTick state-state.freshBalance state-state.nextBalance state-state.wantWith state-state.acceptedPack state-state.freshPack pack-answers.offered pack-answers.withCommand pack-answers.commanded entries-entry.commandOf entries-entry.cellsFrom entries-entry.secondOf entries-entry.firstOf entries-entry.sampleOf entries-entry.fieldsSay entries-entry.entryOf telling-turns.turnedBy telling-turns.turnOf answers-texts.lineOf answers-texts.headerText answers-texts.pageText answers-texts.decisionText answers-texts.refusedText log-replay.replayed
+unfolding laws-bits.hasBit laws-bits.withBitIf laws-each.eachTo units-signed.signedOf protections-table.rowAt crc-checkbyte.timesX
+    crc-checkbyte.timesXs crc-checkbyte.withByte crc-checkbyte.remainder crc-checkbyte.checkByte text-decimal.decimal text-fields.fieldsOf
+    text-finding.lacks numbers-numbers.digitsTo numbers-numbers.numberTo numbers-numbers.signedOf lines-lines.linesOf lines-output.answers
+    lines-output.output ranges-ranges.wordAt ranges-ranges.within ranges-ranges.degreesFit ranges-ranges.levelFits ranges-ranges.levelOf
+    page-page.refusals page-page.judged settings-settings.inDegrees settings-settings.sampleLevel settings-settings.limitsAt
+    settings-settings.limitsOf settings-settings.rulesOf settings-settings.settingsOf settings-settings.noSettings
+    settings-settings.loadedOf quantities-cells.bestOf quantities-cells.widen quantities-cells.extremesOf laws-numbered.listFrom
+    laws-numbered.listOf guard-steps.raised guard-steps.protectionOf guard-steps.protectionsOf guard-steps.stepOne guard-steps.stepWith
+    guard-steps.stepAllWith guard-steps.clear guard-steps.clearAt raised-words.bitsOf raised-words.anyOf raised-words.raisedBits
+    raised-words.anyRaised raised-words.blocksOne raised-words.blocksAny wishes-steps.tenAtMost wishes-steps.cellOf turns-steps.runOf
+    wishes-steps.wishes wishes-steps.wantingWord turns-steps.rested turns-steps.restingWord turns-steps.nextCell turns-steps.nextRun
+    turns-steps.nextRuns walk-steps.chosenWord walk-steps.besideTaken walk-steps.mayTake walk-steps.takeOne walk-steps.takeFrom
+    wishes-wants.wants wishes-word.inWord walk-word.withCellIf wishes-word.wordTo samples-samples.cellsFit samples-samples.sampleRefusals
+    samples-samples.sampleVerdict samples-samples.commandRefusals samples-samples.commandVerdict samples-samples.keptCell
+    samples-samples.trimmed pack-kept.afterLoad shown-shown.modeOrder shown-shown.firstMode shown-shown.switchesOf shown-shown.modeOf
+    shown-shown.decisionOf state-state.nextTick state-state.freshBalance state-state.nextBalance state-state.wantWith
+    state-state.acceptedPack state-state.freshPack pack-answers.offered pack-answers.withCommand pack-answers.commanded
+    entries-entry.commandOf entries-entry.cellsFrom entries-entry.secondOf entries-entry.firstOf entries-entry.sampleOf
+    entries-entry.fieldsSay entries-entry.entryOf telling-turns.turnedBy telling-turns.turnOf answers-texts.lineOf answers-texts.headerText
+    answers-texts.pageText answers-texts.decisionText answers-texts.refusedText log-replay.replayed
 example = refl

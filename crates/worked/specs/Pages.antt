@@ -164,7 +164,8 @@ allFit [] = true
 allFit (c ∷ cs) = fits c && allFit cs
 
 cases-fit : allFit cases ≡ true
-unfolding cases faultsOf lowestFault lowestFrom met reservedMet rangeMet levelMet wordOfMet orderMet orderedAt wordAt within degreesFit levelFits levelOf signedOf rowAt table
+unfolding cases faultsOf lowestFault lowestFrom met reservedMet rangeMet levelMet wordOfMet orderMet orderedAt wordAt within degreesFit
+    levelFits levelOf signedOf rowAt table
 cases-fit = refl
 
 abbrev AllJudged : List Case → Type 0
