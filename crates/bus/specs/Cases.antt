@@ -7,9 +7,9 @@ use Prim.Native.Nat.{ℕ}
 use lib.ListN.{replicate}
 use Rattle.crc.specs.CheckByte.{checkByte, remainder, withByte, timesXs, timesX}
 use Rattle.units.specs.Signed.{wordOf}
-use Rattle.page.specs.Page.{countFrom}
-use Rattle.quantities.specs.Cases.{minus, sampled}
-use Rattle.commands.specs.Table.{table, rowOf}
+use Rattle.page_judge.specs.Page.{countFrom}
+use Rattle.sample.specs.Cases.{minus, sampled}
+use Rattle.bus_table.specs.Table.{table, rowOf}
 use Rattle.bus.specs.Replies.{notInTable, cellAbove, replyRefusals, repliedFor, frameOf, bytesOf, answerOf}
 
 -- ---- (*) "Current -2 is sent as FE FF; -32768 as 00 80", with their check bytes

@@ -7,20 +7,20 @@ use mathlib.Core.List.{List}
 use mathlib.Core.Logic.{_↔_}
 use Prim.Native.Nat.{ℕ}
 use lib.ListN.{length}
-use Rattle.page.specs.Refusals.{NoFault, Lowest, first, none-exactly, refuse-exactly, first-map}
-use Rattle.page.specs.Exactly.{refused-not, refused-one}
-use Rattle.page.specs.declared.Verdict.{Verdict}
-use Rattle.page.specs.declared.Verdict.the-variants.{Accepted, Refused as PageRefused}
-use Rattle.state.specs.declared.Pack.{Pack}
+use Rattle.refusals.specs.Refusals.{NoFault, Lowest, first, none-exactly, refuse-exactly, first-map}
+use Rattle.page_judge.specs.Exactly.{refused-not, refused-one}
+use Rattle.refusals.specs.declared.Verdict.{Verdict}
+use Rattle.refusals.specs.declared.Verdict.the-variants.{Accepted, Refused as PageRefused}
+use Rattle.pack_state.specs.declared.Pack.{Pack}
 use Rattle.pack.specs.Events.{Event}
-use Rattle.state.specs.State.{stateOf}
+use Rattle.pack_state.specs.State.{stateOf}
 use Rattle.pack.specs.Kept.{pageOf, pastAfter, stateAfter}
 use Rattle.pack.specs.After.{after, after-is}
-use Rattle.bus.specs.declared.Replied.{Replied}
-use Rattle.bus.specs.declared.Replied.the-variants.{Sent, Refused}
-use Rattle.commands.specs.Table.{rowOf}
-use Rattle.sent.specs.Words.{sentWord, saidOf}
-use Rattle.sent.specs.Demands.{word-is}
+use Rattle.bus.specs.declared.answer.Replied.{Replied}
+use Rattle.bus.specs.declared.answer.Replied.the-variants.{Sent, Refused}
+use Rattle.bus_table.specs.Table.{rowOf}
+use Rattle.bus_words.specs.Words.{sentWord, saidOf}
+use Rattle.bus_words.specs.Demands.{word-is}
 use Rattle.bus.specs.Replies.{replyRefusals, repliedFor, frameOf, bytesOf, bytesFor, repliedAfter, bufferAfter, repliedTo, bytesAfter}
 
 -- ---- after any load and calls

@@ -1,3 +1,3 @@
-pub mod Replies
-pub mod Demands
 pub mod Cases
+pub mod Demands
+pub mod Replies

@@ -10,18 +10,18 @@ use lib.Dec.{eqb, ltb}
 use lib.ListN.{length, set}
 use Rattle.laws.specs.Tests.{by-test}
 use Rattle.crc.specs.CheckByte.{checkByte}
-use Rattle.page.specs.Refusals.{rule, Refusal, refusal, Answer, answer, first}
-use Rattle.settings.specs.declared.Settings.{Settings}
-use Rattle.state.specs.declared.Pack.{Pack}
-use Rattle.state.specs.Past.{Past}
-use Rattle.state.specs.State.{anySample}
-use Rattle.commands.specs.declared.Sends.{Sends}
-use Rattle.commands.specs.declared.Sends.the-variants.{Nothing, Cell, Whole}
-use Rattle.bus.specs.declared.Framed.{Framed}
-use Rattle.bus.specs.declared.Replied.{Replied}
-use Rattle.bus.specs.declared.Replied.the-variants.{Sent, Refused}
-use Rattle.commands.specs.Table.{rowOf}
-use Rattle.sent.specs.Words.{sentWord, wordAfter, saidOf}
+use Rattle.refusals.specs.Refusals.{rule, Refusal, refusal, Answer, answer, first}
+use Rattle.page_settings.specs.declared.Settings.{Settings}
+use Rattle.pack_state.specs.declared.Pack.{Pack}
+use Rattle.pack_state.specs.Past.{Past}
+use Rattle.pack_state.specs.State.{anySample}
+use Rattle.bus_table.specs.declared.Sends.{Sends}
+use Rattle.bus_table.specs.declared.Sends.the-variants.{Nothing, Cell, Whole}
+use Rattle.bus.specs.declared.answer.Framed.{Framed}
+use Rattle.bus.specs.declared.answer.Replied.{Replied}
+use Rattle.bus.specs.declared.answer.Replied.the-variants.{Sent, Refused}
+use Rattle.bus_table.specs.Table.{rowOf}
+use Rattle.bus_words.specs.Words.{sentWord, wordAfter, saidOf}
 
 -- ---- refusals
 

@@ -2,9 +2,9 @@
 -- Assumes nothing.
 use mathlib.Core.Path.{_≡_}
 use lib.ListN.{length}
-use Rattle.quantities.specs.declared.Sample.{Sample}
-use Rattle.samples.specs.Samples.{Agree, agree-verdict, agree-trimmed}
-use Rattle.state.specs.declared.Pack.{Pack}
+use Rattle.sample.specs.declared.Sample.{Sample}
+use Rattle.pack_refusals.specs.Samples.{Agree, agree-verdict, agree-trimmed}
+use Rattle.pack_state.specs.declared.Pack.{Pack}
 use Rattle.pack.specs.Answers.{offered}
 
 pub agree-offered : (p : Pack) (s t : Sample) → length (s .cells) ≡ 10 → length (t .cells) ≡ 10 → Agree s t → offered p s ≡ offered p t

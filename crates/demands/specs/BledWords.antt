@@ -8,14 +8,14 @@ use native.Mathlib.Omega.{arith}
 use lib.ListN.{drop}
 use borrow.Author.Tests.{lt-ltb}
 use Rattle.laws.specs.Latest.{lastAll, among}
-use Rattle.quantities.specs.declared.Sample.{Sample}
-use Rattle.settings.specs.declared.Settings.{Settings}
-use Rattle.settings.specs.Good.{Good}
-use Rattle.walk.specs.Walk.{has}
-use Rattle.walk.specs.History.{bleds}
-use Rattle.wishes.specs.Word.{inWord}
-use Rattle.walk.specs.Balance.{bledWord, bledNow, bled-bit}
-use Rattle.state.specs.State.{wishesOf, bledAfter}
+use Rattle.sample.specs.declared.Sample.{Sample}
+use Rattle.page_settings.specs.declared.Settings.{Settings}
+use Rattle.page_settings.specs.Good.{Good}
+use Rattle.bleed.specs.Walk.Walk.{has}
+use Rattle.bleed.specs.Walk.History.{bleds}
+use Rattle.bleed_wants.specs.Word.{inWord}
+use Rattle.bleed.specs.Walk.Balance.{bledWord, bledNow, bled-bit}
+use Rattle.pack_state.specs.State.{wishesOf, bledAfter}
 
 -- The bled words of a history, one for each accepted sample: what 0x46 showed after it.
 abbrev pub bledWords : Settings → List Sample → List ℕ

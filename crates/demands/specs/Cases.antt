@@ -11,40 +11,41 @@ use Rattle.units.specs.declared.MilliVolts.{MilliVolts}
 use Rattle.laws.specs.Bits.{hasBit, withBit, withBitIf}
 use Rattle.laws.specs.Each.{eachTo}
 use Rattle.protections.specs.Table.{rowAt, table}
-use Rattle.quantities.specs.Cells.{bestOf, extremesOf}
+use Rattle.sample.specs.Cells.{bestOf, extremesOf}
 use Rattle.laws.specs.Numbered.{listOf, listFrom}
-use Rattle.quantities.specs.Measure.{measure}
+use Rattle.sample.specs.Measure.{measure}
 use Rattle.guard.specs.Steps.{raised, protectionsOf, protectionOf, stepAllWith, stepWith, stepOne}
-use Rattle.raised.specs.Words.{bitsOf, anyOf, raisedBits, anyRaised, blocksOne, blocksAny, someRaised}
-use Rattle.wishes.specs.Wants.{wants}
-use Rattle.wishes.specs.Word.{inWord, wordTo}
-use Rattle.walk.specs.History.{wantsCell}
-use Rattle.walk.specs.Balance.{bledWord}
-use Rattle.wishes.specs.Steps.{tenAtMost, cellOf, wishes, wantingWord}
-use Rattle.turns.specs.Steps.{nextCell, nextRun, nextRuns, runOf, rested, restingWord}
-use Rattle.walk.specs.Steps.{chosenWord}
-use Rattle.samples.specs.Samples.{cellsFit, sampleRefusals, sampleVerdict, commandRefusals, commandVerdict, keptCell, trimmed}
+use Rattle.guard_raised.specs.Words.{bitsOf, anyOf, raisedBits, anyRaised, blocksOne, blocksAny, someRaised}
+use Rattle.bleed_wants.specs.Wants.{wants}
+use Rattle.bleed_wants.specs.Word.{inWord, wordTo}
+use Rattle.bleed.specs.Walk.History.{wantsCell}
+use Rattle.bleed.specs.Walk.Balance.{bledWord}
+use Rattle.bleed_wants.specs.Steps.{tenAtMost, cellOf, wishes, wantingWord}
+use Rattle.bleed.specs.Resting.Steps.{nextCell, nextRun, nextRuns, runOf, rested, restingWord}
+use Rattle.bleed.specs.Walk.Steps.{chosenWord}
+use Rattle.pack_refusals.specs.Samples.{cellsFit, sampleRefusals, sampleVerdict, commandRefusals, commandVerdict, keptCell, trimmed}
 use Rattle.units.specs.Signed.{signedOf}
 use Rattle.laws.specs.Latest.{lastAll, among}
 use Rattle.crc.specs.CheckByte.{timesX, timesXs, withByte, remainder, checkByte}
-use Rattle.ranges.specs.Ranges.{wordAt, within, degreesFit, levelFits, levelOf}
-use Rattle.page.specs.Page.{refusals, judged, answerOf}
-use Rattle.page.specs.declared.Verdict.the-variants.{Accepted}
-use Rattle.page.specs.Worked.{workedPage, pageWith, put}
-use Rattle.quantities.specs.declared.Sample.{Sample}
-use Rattle.settings.specs.declared.Rules.{Rules}
-use Rattle.settings.specs.declared.Settings.{Settings}
-use Rattle.settings.specs.declared.Loaded.{Loaded}
-use Rattle.settings.specs.Settings.{inDegrees, sampleLevel, limitsAt, limitsOf, rulesOf, settingsOf, noSettings, loadedOf}
-use Rattle.settings.specs.Cases.{workedRules, worked, worked-loaded}
-use Rattle.state.specs.declared.Pack.{Pack}
+use Rattle.page_words.specs.Ranges.{wordAt, within, degreesFit, levelFits, levelOf}
+use Rattle.page_judge.specs.Page.{refusals, judged}
+use Rattle.refusals.specs.Answers.{answerOf}
+use Rattle.refusals.specs.declared.Verdict.the-variants.{Accepted}
+use Rattle.page_judge.specs.Worked.{workedPage, pageWith, put}
+use Rattle.sample.specs.declared.Sample.{Sample}
+use Rattle.page_settings.specs.declared.Rules.{Rules}
+use Rattle.page_settings.specs.declared.Settings.{Settings}
+use Rattle.page_settings.specs.declared.Loaded.{Loaded}
+use Rattle.page_settings.specs.Settings.{inDegrees, sampleLevel, limitsAt, limitsOf, rulesOf, settingsOf, noSettings, loadedOf}
+use Rattle.page_settings.specs.Cases.{workedRules, worked, worked-loaded}
+use Rattle.pack_state.specs.declared.Pack.{Pack}
 use Rattle.pack.specs.declared.Answered.{Answered}
 use Rattle.pack.specs.Events.{Event, offer, command, accepts}
-use Rattle.state.specs.State.{wishAt, wishesOf, bledAfter, freshPack, freshBalance, nextTick, nextBalance, wantWith, acceptedPack}
+use Rattle.pack_state.specs.State.{wishAt, wishesOf, bledAfter, freshPack, freshBalance, nextTick, nextBalance, wantWith, acceptedPack}
 use Rattle.pack.specs.Answers.{offered, withCommand, commanded}
 use Rattle.pack.specs.Kept.{pageOf}
 use Rattle.demands.specs.BledWords.{bledWords}
-use Rattle.shown.specs.Shown.{modeOrder, firstMode, switchesOf, modeOf, decisionOf}
+use Rattle.pack_shown.specs.Shown.{modeOrder, firstMode, switchesOf, modeOf, decisionOf}
 
 -- ---- samples and answers, written short
 

@@ -13,32 +13,32 @@ use Rattle.laws.specs.Tests.{clash}
 use Rattle.laws.specs.Bits.{hasBit, has-zero}
 use Rattle.laws.specs.Latest.{lastAll, among}
 use Rattle.protections.specs.Table.{rowAt, protections}
-use Rattle.page.specs.Page.{judged}
-use Rattle.page.specs.Refusals.{NoFault, Lowest, none-exactly, refuse-exactly}
-use Rattle.page.specs.Exactly.{refused-not, refused-one}
-use Rattle.page.specs.declared.Verdict.the-variants.{Accepted, Refused}
-use Rattle.quantities.specs.declared.Sample.{Sample}
+use Rattle.page_judge.specs.Page.{judged}
+use Rattle.refusals.specs.Refusals.{NoFault, Lowest, none-exactly, refuse-exactly}
+use Rattle.page_judge.specs.Exactly.{refused-not, refused-one}
+use Rattle.refusals.specs.declared.Verdict.the-variants.{Accepted, Refused}
+use Rattle.sample.specs.declared.Sample.{Sample}
 use Rattle.guard.specs.Steps.{raised, limitsAt}
-use Rattle.raised.specs.Words.{raisedWord-has}
-use Rattle.samples.specs.Samples.{sampleRefusals, sampleVerdict, commandRefusals, commandVerdict}
-use Rattle.settings.specs.declared.Settings.{Settings}
-use Rattle.settings.specs.Good.{Good, accepted-good}
-use Rattle.walk.specs.Walk.{has}
-use Rattle.walk.specs.History.{bleds}
-use Rattle.wishes.specs.Word.{inWord}
-use Rattle.walk.specs.History.{wantsCell}
-use Rattle.walk.specs.Demand.{fair-anywhere, never-over-R}
-use Rattle.walk.specs.Balance.{bled-few, bled-apart}
-use Rattle.state.specs.declared.Pack.{Pack}
-use Rattle.shown.specs.declared.Decision.{Decision}
+use Rattle.guard_raised.specs.Words.{raisedWord-has}
+use Rattle.pack_refusals.specs.Samples.{sampleRefusals, sampleVerdict, commandRefusals, commandVerdict}
+use Rattle.page_settings.specs.declared.Settings.{Settings}
+use Rattle.page_settings.specs.Good.{Good, accepted-good}
+use Rattle.bleed.specs.Walk.Walk.{has}
+use Rattle.bleed.specs.Walk.History.{bleds}
+use Rattle.bleed_wants.specs.Word.{inWord}
+use Rattle.bleed.specs.Walk.History.{wantsCell}
+use Rattle.bleed.specs.Walk.Demand.{fair-anywhere, never-over-R}
+use Rattle.bleed.specs.Walk.Balance.{bled-few, bled-apart}
+use Rattle.pack_state.specs.declared.Pack.{Pack}
+use Rattle.pack_shown.specs.declared.Decision.{Decision}
 use Rattle.pack.specs.Events.{Event}
-use Rattle.state.specs.State.{wishesOf, bledAfter}
+use Rattle.pack_state.specs.State.{wishesOf, bledAfter}
 use Rattle.pack.specs.Answers.{offered, commanded}
 use Rattle.pack.specs.Kept.{pageOf, pastAfter, stateAfter}
-use Rattle.shown.specs.Shown.{switchAfter, decisionAfter, switchOn, decisionOf}
+use Rattle.pack_shown.specs.Shown.{switchAfter, decisionAfter, switchOn, decisionOf}
 use Rattle.pack.specs.Calls.{page-accepted}
 use Rattle.pack.specs.After.{after, after-is}
-use Rattle.shown.specs.Decided.{decision-is, switch-is}
+use Rattle.pack_shown.specs.Decided.{decision-is, switch-is}
 use Rattle.demands.specs.BledWords.{bledWords, alike-drop, alike-among, alike-last, some, ten, words-alike}
 
 -- ---- DEMAND 1. "Any page, sample, command or log line gets an answer. Each refusal in document 01 is given exactly when its row

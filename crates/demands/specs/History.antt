@@ -4,27 +4,27 @@
 use Prim.Native.Nat.{ℕ}
 use mathlib.Core.Path.{_≡_, refl, ap, ap₂, _∙_}
 use mathlib.Core.List.{List, [], _∷_, _++_}
-use Rattle.page.specs.declared.Verdict.{Verdict}
-use Rattle.page.specs.declared.Verdict.the-variants as verdict
-use Rattle.samples.specs.Samples.{sampleVerdict, commandVerdict}
-use Rattle.state.specs.declared.Pack.{Pack}
+use Rattle.refusals.specs.declared.Verdict.{Verdict}
+use Rattle.refusals.specs.declared.Verdict.the-variants as verdict
+use Rattle.pack_refusals.specs.Samples.{sampleVerdict, commandVerdict}
+use Rattle.pack_state.specs.declared.Pack.{Pack}
 use Rattle.pack.specs.Events.{Event, offer, command}
-use Rattle.state.specs.State.{stateOf}
+use Rattle.pack_state.specs.State.{stateOf}
 use Rattle.pack.specs.Answers.{offered, commanded}
 use Rattle.pack.specs.Kept.{pageOf, pastAfter, stateAfter, afterLoad}
-use Rattle.shown.specs.Shown.{decisionAfter}
+use Rattle.pack_shown.specs.Shown.{decisionAfter}
 use Rattle.pack.specs.After.{after, after-is}
 use Rattle.demands.specs.Demands.{demand-2-decision}
-use Rattle.entries.specs.declared.Kind.{Kind}
-use Rattle.entries.specs.declared.Kind.the-variants.{Offer, Command, Malformed}
-use Rattle.entries.specs.declared.Entry.{Entry}
-use Rattle.entries.specs.Entry.{entryOf}
-use Rattle.lines.specs.Lines.{linesOf}
-use Rattle.lines.specs.Output as any
-use Rattle.shown.specs.declared.Told.{Told}
-use Rattle.shown.specs.declared.Told.the-variants.{Decided, Refused}
-use Rattle.telling.specs.Turns.{toldBy, answeredAs, turnedBy, turnOf}
-use Rattle.answers.specs.Texts.{textOf, headerText}
+use Rattle.log_entries.specs.declared.Kind.{Kind}
+use Rattle.log_entries.specs.declared.Kind.the-variants.{Offer, Command, Malformed}
+use Rattle.log_entries.specs.declared.Entry.{Entry}
+use Rattle.log_entries.specs.Entry.{entryOf}
+use Rattle.log_lines.specs.Lines.{linesOf}
+use Rattle.log_lines.specs.Output as any
+use Rattle.log_answers.specs.declared.Told.{Told}
+use Rattle.log_answers.specs.declared.Told.the-variants.{Decided, Refused}
+use Rattle.log_answers.specs.Turns.{toldBy, answeredAs, turnedBy, turnOf}
+use Rattle.log_texts.specs.Texts.{textOf, headerText}
 use Rattle.log.specs.Replay.{nextOf, answerOf, replayed}
 
 -- The events of the lines so far, the latest first, and those of one line more: a malformed line is none.

@@ -14,26 +14,26 @@ use borrow.Author.Tests.{ltb-true, eqb-true, eqb-false, eq-eqb}
 use Rattle.laws.specs.Tests.{by-test, clash, and-left, and-right, or-left, or-right, or-cases}
 use Rattle.laws.specs.Latest.{lastAll, among}
 use Rattle.units.specs.declared.MilliVolts.{MilliVolts}
-use Rattle.page.specs.declared.Verdict.{Verdict}
-use Rattle.page.specs.declared.Verdict.the-variants.{Accepted, Refused}
-use Rattle.quantities.specs.declared.Sample.{Sample}
-use Rattle.quantities.specs.declared.Extremes.{Extremes}
-use Rattle.samples.specs.Samples.{sampleVerdict, commandVerdict, trimmed, sample-exact}
+use Rattle.refusals.specs.declared.Verdict.{Verdict}
+use Rattle.refusals.specs.declared.Verdict.the-variants.{Accepted, Refused}
+use Rattle.sample.specs.declared.Sample.{Sample}
+use Rattle.sample.specs.declared.Extremes.{Extremes}
+use Rattle.pack_refusals.specs.Samples.{sampleVerdict, commandVerdict, trimmed, sample-exact}
 use Rattle.pack.specs.Events.{Event, offer, command, accepts, withEvent, pastOf}
-use Rattle.quantities.specs.Cells.{noVolts, lowest, lowest-among, extremesOf, extremes-are}
-use Rattle.settings.specs.declared.Settings.{Settings}
-use Rattle.settings.specs.Good.{Good, accepted-good}
-use Rattle.page.specs.Page.{judged}
-use Rattle.walk.specs.Demand.{bleds-drop}
+use Rattle.sample.specs.Cells.{noVolts, lowest, lowest-among, extremesOf, extremes-are}
+use Rattle.page_settings.specs.declared.Settings.{Settings}
+use Rattle.page_settings.specs.Good.{Good, accepted-good}
+use Rattle.page_judge.specs.Page.{judged}
+use Rattle.bleed.specs.Walk.Demand.{bleds-drop}
 use Rattle.pack.specs.Kept.{pageOf, pastAfter}
 use Rattle.pack.specs.Calls.{page-accepted}
-use Rattle.walk.specs.Walk.{has, neighbours, hasNeighbour, chosen}
-use Rattle.walk.specs.WalkLaws.{only-wanting, only-cells, no-waste}
-use Rattle.walk.specs.History.{wantsCell, resting, startCell, bleds}
-use Rattle.wishes.specs.Wants.{wants}
-use Rattle.wishes.specs.Steps.{wishes, cellOf}
-use Rattle.wishes.specs.Word.{inWord}
-use Rattle.state.specs.State.{wishAt, wishesOf}
+use Rattle.bleed.specs.Walk.Walk.{has, neighbours, hasNeighbour, chosen}
+use Rattle.bleed.specs.Walk.WalkLaws.{only-wanting, only-cells, no-waste}
+use Rattle.bleed.specs.Walk.History.{wantsCell, resting, startCell, bleds}
+use Rattle.bleed_wants.specs.Wants.{wants}
+use Rattle.bleed_wants.specs.Steps.{wishes, cellOf}
+use Rattle.bleed_wants.specs.Word.{inWord}
+use Rattle.pack_state.specs.State.{wishAt, wishesOf}
 use Rattle.demands.specs.BledWords.{bledWords, words-alike, alike-drop, alike-among}
 
 -- ---- a cell that wants alone

@@ -7,13 +7,13 @@ use Prim.Native.Nat.{ℕ}
 use lib.IntN.{ℤ, pos}
 use Rattle.protections.specs.declared.Limits.{Limits}
 use Rattle.protections.specs.Table.{rowAt, table}
-use Rattle.quantities.specs.declared.Sample.{Sample}
-use Rattle.quantities.specs.Cells.{bestOf, extremesOf}
-use Rattle.quantities.specs.Measure.{measure}
-use Rattle.quantities.specs.Cases.{minus, sampled}
-use Rattle.guard.specs.declared.Alarm.{Alarm}
-use Rattle.guard.specs.declared.Alarm.the-variants.{Clear}
-use Rattle.guard.specs.declared.Protection.{Protection}
+use Rattle.sample.specs.declared.Sample.{Sample}
+use Rattle.sample.specs.Cells.{bestOf, extremesOf}
+use Rattle.sample.specs.Measure.{measure}
+use Rattle.sample.specs.Cases.{minus, sampled}
+use Rattle.guard.specs.declared.rule.Alarm.{Alarm}
+use Rattle.guard.specs.declared.rule.Alarm.the-variants.{Clear}
+use Rattle.guard.specs.declared.rule.Protection.{Protection}
 use Rattle.guard.specs.Runs.{isRaised}
 use Rattle.guard.specs.Steps.{raised, stepOne, stepWith}
 

@@ -11,8 +11,8 @@ use lib.Dec.{leb}
 use borrow.Author.Tests.{lt-leb, leb-false, not-true}
 use Rattle.laws.specs.Tests.{by-test, clash}
 use Rattle.laws.specs.Latest.{lastAll, run, lastAll-run}
-use Rattle.guard.specs.declared.Alarm.{Alarm}
-use Rattle.guard.specs.declared.Alarm.the-variants.{Clear, Raised}
+use Rattle.guard.specs.declared.rule.Alarm.{Alarm}
+use Rattle.guard.specs.declared.rule.Alarm.the-variants.{Clear, Raised}
 
 abbrev pub isRaised : Alarm → Bool
 isRaised (Clear run) = false

@@ -14,13 +14,13 @@ use Rattle.protections.specs.declared.Limits.{Limits}
 use Rattle.protections.specs.declared.Row.{Row}
 use Rattle.protections.specs.Direction.{reaches, back, inOrder, never-both}
 use Rattle.protections.specs.Table.{rowAt, protections}
-use Rattle.quantities.specs.declared.Sample.{Sample}
-use Rattle.quantities.specs.declared.Extremes.{Extremes}
-use Rattle.guard.specs.declared.Protection.{Protection}
-use Rattle.guard.specs.declared.Alarm.{Alarm}
-use Rattle.guard.specs.declared.Alarm.the-variants.{Clear}
-use Rattle.quantities.specs.Cells.{extremesOf}
-use Rattle.quantities.specs.Measure.{measureWith, measure, trips, qualifies, between, between-neither}
+use Rattle.sample.specs.declared.Sample.{Sample}
+use Rattle.sample.specs.declared.Extremes.{Extremes}
+use Rattle.guard.specs.declared.rule.Protection.{Protection}
+use Rattle.guard.specs.declared.rule.Alarm.{Alarm}
+use Rattle.guard.specs.declared.rule.Alarm.the-variants.{Clear}
+use Rattle.sample.specs.Cells.{extremesOf}
+use Rattle.sample.specs.Measure.{measureWith, measure, trips, qualifies, between, between-neither}
 use Rattle.laws.specs.Numbered.{listOf, listOf-length, listOf-at, each-listOf}
 use Rattle.guard.specs.Runs as runs
 use Rattle.guard.specs.Runs.{nextAlarm, RunWithin}

@@ -11,23 +11,23 @@ use lib.ListN.{length, take, drop, length-append, drop-of-length-le}
 use lib.Seq.{take-length}
 use borrow.Author.Tests.{le-ltb, eqb-true, eqb-false, ne-eqb}
 use Rattle.laws.specs.Tests.{by-test}
-use Rattle.text.specs.Finding.{lacks}
-use Rattle.writing.specs.Placing.{Put}
-use Rattle.lines.specs.Lines.{plain, linesOf}
-use Rattle.lines.specs.Carrying.{carriedOf, movedDown, carried-few}
-use Rattle.lines.specs.Walking.{Ended, whole, whole-none, whole-line}
-use Rattle.lines.specs.Output as any
-use Rattle.lines.specs.Chunk as cut
-use Rattle.page.specs.declared.Verdict.{Verdict}
-use Rattle.page.specs.declared.Verdict.the-variants as verdict
-use Rattle.state.specs.declared.Pack.{Pack}
+use Rattle.text_fields.specs.Finding.{lacks}
+use Rattle.text_writing.specs.Placing.{Put}
+use Rattle.log_lines.specs.Lines.{plain, linesOf}
+use Rattle.log_lines.specs.Carrying.{carriedOf, movedDown, carried-few}
+use Rattle.log_lines.specs.Walking.{Ended, whole, whole-none, whole-line}
+use Rattle.log_lines.specs.Output as any
+use Rattle.log_lines.specs.Chunk as cut
+use Rattle.refusals.specs.declared.Verdict.{Verdict}
+use Rattle.refusals.specs.declared.Verdict.the-variants as verdict
+use Rattle.pack_state.specs.declared.Pack.{Pack}
 use Rattle.pack.specs.Kept.{afterLoad}
-use Rattle.telling.specs.Turns.{turnOf, turned, turn-overlong}
-use Rattle.answers.specs.Texts.{textOf, openingText, headerText}
-use Rattle.answers.specs.Room.{room, roomed, roomed-is, nothing-put}
-use Rattle.shown.specs.declared.Told.the-variants.{Refused}
-use Rattle.telling.specs.declared.Turned.{Turned}
-use Rattle.log.specs.declared.Fed.{Fed}
+use Rattle.log_answers.specs.Turns.{turnOf, turned, turn-overlong}
+use Rattle.log_texts.specs.Texts.{textOf, openingText, headerText}
+use Rattle.log_texts.specs.Room.{room, roomed, roomed-is, nothing-put}
+use Rattle.log_answers.specs.declared.Told.the-variants.{Refused}
+use Rattle.log_answers.specs.declared.Turned.{Turned}
+use Rattle.log.specs.declared.chunk.Fed.{Fed}
 
 -- The pack behind a line, and the text that the line is answered with.
 abbrev pub nextOf : Pack → List ℕ → Pack

@@ -3,8 +3,8 @@
 use mathlib.Core.Path.{_≡_, ap, _∙_}
 use mathlib.Core.List.{List, [], _∷_}
 use Prim.Native.Nat.{ℕ}
-use Rattle.state.specs.declared.Pack.{Pack}
-use Rattle.state.specs.Steps.{state-fresh}
+use Rattle.pack_state.specs.declared.Pack.{Pack}
+use Rattle.pack_state.specs.Steps.{state-fresh}
 use Rattle.pack.specs.declared.Answered.{Answered}
 use Rattle.pack.specs.Events.{Event, offer, command, pastOf}
 use Rattle.pack.specs.Answers.{offered, commanded}

@@ -2,11 +2,11 @@
 -- Assumes nothing.
 use mathlib.Core.Bool.{cond}
 use Prim.Native.Nat.{ℕ}
-use Rattle.page.specs.declared.Verdict.{Verdict}
-use Rattle.quantities.specs.declared.Sample.{Sample}
-use Rattle.samples.specs.Samples.{sampleVerdict, commandVerdict, trimmed}
-use Rattle.state.specs.declared.Pack.{Pack}
-use Rattle.state.specs.State.{acceptedPack}
+use Rattle.refusals.specs.declared.Verdict.{Verdict}
+use Rattle.sample.specs.declared.Sample.{Sample}
+use Rattle.pack_refusals.specs.Samples.{sampleVerdict, commandVerdict, trimmed}
+use Rattle.pack_state.specs.declared.Pack.{Pack}
+use Rattle.pack_state.specs.State.{acceptedPack}
 use Rattle.pack.specs.declared.Answered.{Answered}
 use Rattle.pack.specs.Events.{accepts}
 

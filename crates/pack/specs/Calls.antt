@@ -7,17 +7,17 @@ use Prim.Native.Nat.{ℕ, zero, suc, _%_, _<_}
 use native.Mathlib.Omega.{arith}
 use native.Mathlib.Nat.{zero-lt-suc, mod-eq-of-lt}
 use Rattle.laws.specs.Tests.{by-test, clash}
-use Rattle.page.specs.Page.{judged}
-use Rattle.page.specs.declared.Verdict.{Verdict}
-use Rattle.page.specs.declared.Verdict.the-variants.{Accepted, Refused}
-use Rattle.quantities.specs.declared.Sample.{Sample}
-use Rattle.samples.specs.Samples.{sampleVerdict, commandVerdict, trimmed, sample-none, command-most}
-use Rattle.settings.specs.declared.Loaded.{Loaded}
-use Rattle.settings.specs.Settings.{settingsOf, noSettings, loadedOf, loadedWith}
-use Rattle.settings.specs.Good.{Good, accepted-good}
-use Rattle.state.specs.declared.Pack.{Pack}
-use Rattle.state.specs.State.{stateOf, freshPack, acceptedPack, Ready}
-use Rattle.state.specs.Steps.{state-next, state-ready, state-fresh}
+use Rattle.page_judge.specs.Page.{judged}
+use Rattle.refusals.specs.declared.Verdict.{Verdict}
+use Rattle.refusals.specs.declared.Verdict.the-variants.{Accepted, Refused}
+use Rattle.sample.specs.declared.Sample.{Sample}
+use Rattle.pack_refusals.specs.Samples.{sampleVerdict, commandVerdict, trimmed, sample-none, command-most}
+use Rattle.page_settings.specs.declared.Loaded.{Loaded}
+use Rattle.page_settings.specs.Settings.{settingsOf, noSettings, loadedOf, loadedWith}
+use Rattle.page_settings.specs.Good.{Good, accepted-good}
+use Rattle.pack_state.specs.declared.Pack.{Pack}
+use Rattle.pack_state.specs.State.{stateOf, freshPack, acceptedPack, Ready}
+use Rattle.pack_state.specs.Steps.{state-next, state-ready, state-fresh}
 use Rattle.pack.specs.declared.Answered.{Answered}
 use Rattle.pack.specs.Events.{Event, offer, command, accepts, withEvent, pastOf}
 use Rattle.pack.specs.Answers.{answered, offered, withCommand, commanded}

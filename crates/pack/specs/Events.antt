@@ -4,11 +4,11 @@
 use mathlib.Core.Bool.{Bool, true, false, cond}
 use mathlib.Core.List.{List, [], _∷_}
 use Prim.Native.Nat.{ℕ}
-use Rattle.page.specs.declared.Verdict.{Verdict}
-use Rattle.page.specs.declared.Verdict.the-variants.{Accepted, Refused}
-use Rattle.quantities.specs.declared.Sample.{Sample}
-use Rattle.state.specs.Past.{Past, past}
-use Rattle.samples.specs.Samples.{sampleVerdict, commandVerdict, trimmed}
+use Rattle.refusals.specs.declared.Verdict.{Verdict}
+use Rattle.refusals.specs.declared.Verdict.the-variants.{Accepted, Refused}
+use Rattle.sample.specs.declared.Sample.{Sample}
+use Rattle.pack_state.specs.Past.{Past, past}
+use Rattle.pack_refusals.specs.Samples.{sampleVerdict, commandVerdict, trimmed}
 
 pub data Event : Type 0 where
   offer : Sample → Event

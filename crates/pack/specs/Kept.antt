@@ -3,11 +3,11 @@
 use mathlib.Core.Path.{_≡_}
 use mathlib.Core.List.{List}
 use Prim.Native.Nat.{ℕ}
-use Rattle.settings.specs.declared.Settings.{Settings}
-use Rattle.settings.specs.Settings.{loadedOf}
-use Rattle.state.specs.declared.Pack.{Pack}
-use Rattle.state.specs.Past.{Past}
-use Rattle.state.specs.State.{stateOf, freshPack}
+use Rattle.page_settings.specs.declared.Settings.{Settings}
+use Rattle.page_settings.specs.Settings.{loadedOf}
+use Rattle.pack_state.specs.declared.Pack.{Pack}
+use Rattle.pack_state.specs.Past.{Past}
+use Rattle.pack_state.specs.State.{stateOf, freshPack}
 use Rattle.pack.specs.declared.Answered.{Answered}
 use Rattle.pack.specs.Events.{Event, pastOf}
 use Rattle.pack.specs.Answers.{answered}

@@ -1,19 +1,19 @@
 // The pack: loading a page, offering a sample, commanding the switches.
 ghost use mathlib.Core.Path.{_≡_};
-ghost use Rattle.state.specs.State.{freshBalance, freshPack};
+ghost use Rattle.pack_state.specs.State.{freshBalance, freshPack};
 ghost use Rattle.pack.specs.Answers.{offered, commanded};
 ghost use Rattle.pack.specs.Kept.{Kept, afterLoad};
-use alarms::fresh;
-use page::Verdict;
-use quantities::Sample;
-use quantities::no_sample;
-use samples::command_verdict;
-use samples::sample_verdict;
-use samples::trim;
-use settings::Settings;
-use state::Balance;
-use state::Pack;
-use state::accept;
+use guard::all::fresh;
+use pack_refusals::command_verdict;
+use pack_refusals::sample_verdict;
+use pack_refusals::trim;
+use pack_state::Balance;
+use pack_state::Pack;
+use pack_state::accept;
+use page_settings::Settings;
+use refusals::Verdict;
+use sample::Sample;
+use sample::no_sample;
 use units::CellNo;
 
 // What a call answers, beside the state that it hands back.
@@ -58,7 +58,7 @@ pub fn load(bytes: &[u8]) -> Answered
     ensures { λ r. ⌜ r ≡ afterLoad (now (bytes .entry)) ⌝ }
     ensures { λ r. ⌜ Kept (r .pack) ⌝ }
 {
-    let loaded = settings::load(bytes);
+    let loaded = page_settings::load(bytes);
     let verdict = loaded.verdict;
     let s = loaded.settings;
     let pack = fresh_pack(s);

@@ -6,8 +6,8 @@ ghost use lib.ListN.{length};
 ghost use Rattle.pack.specs.Kept.{Kept};
 use libc::STDERR_FILENO;
 use libc::STDOUT_FILENO;
-use page::Verdict;
-use state::Pack;
+use pack_state::Pack;
+use refusals::Verdict;
 
 // How many bytes of a buffer were filled, and whether no read failed.
 struct Got {
@@ -79,7 +79,7 @@ fn answer_part(p: Pack, buf: &mut [u8], have: usize, out: &mut [u8]) -> Part
     ensures { λ r. ⌜ Kept (r .pack) × (r .held ≤ length (now (buf .entry))) ⌝ }
 {
     let waiting = &mut buf[..have];
-    let r = log::feed(p, waiting, out);
+    let r = log::chunk::feed(p, waiting, out);
     let n = r.written;
     let text = &out[..n];
     let ok = write_text(text);
@@ -143,7 +143,7 @@ fn answer(name: &[u8], fd: i32, p: Pack, buf: &mut [u8], first: usize, out: &mut
 {
     let r = answer_lines(name, fd, p, buf, first, out);
     if r.ok {
-        let n = ends::last(buf, r.held);
+        let n = log::ends::last(buf, r.held);
         let k = r.pack;
         answer_part(k, buf, n, out);
     }
@@ -153,7 +153,7 @@ fn answer(name: &[u8], fd: i32, p: Pack, buf: &mut [u8], first: usize, out: &mut
 fn replay(page: &[u8], name: &[u8], fd: i32, buf: &mut [u8], first: usize, out: &mut [u8])
     requires { ⌜ first ≤ length (now buf) ⌝ }
 {
-    let b = ends::begin(page, out);
+    let b = log::ends::begin(page, out);
     let n = b.written;
     let text = &out[..n];
     if !write_text(text) {

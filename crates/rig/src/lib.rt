@@ -1,11 +1,11 @@
 // What the bench rig's host program, written in C, calls. tests/rig/keeper.h has the prototypes.
 ghost use mathlib.Core.Path.{_≡_};
 ghost use Rattle.crc.specs.CheckByte.{checkByte};
-ghost use Rattle.page.specs.Page.{judged};
+ghost use Rattle.page_judge.specs.Page.{judged};
 ghost use Rattle.rig.specs.Answer.{numbered};
 use crc::check_byte;
-use page::Verdict;
-use page::judge;
+use page_judge::judge;
+use refusals::Verdict;
 
 // uint32_t keeper_check_byte(const uint8_t *bytes, size_t length): the check byte of the bytes.
 #[no_mangle]

@@ -11,9 +11,9 @@ use lib.Dec.{eqb}
 use lib.ListN.{length, getD, replicate}
 use borrow.Author.Tests.{eq-eqb, ne-eqb, eqb-true}
 use Rattle.laws.specs.Tests.{by-test, clash, and-left, or-left, or-right, or-cases}
-use Rattle.walk.specs.Walk.{has, hasNeighbour, chosen}
-use Rattle.walk.specs.WalkLaws.{only-wanting, no-waste}
-use Rattle.walk.specs.History.{resting, startCell, bleds}
+use Rattle.bleed.specs.Walk.Walk.{has, hasNeighbour, chosen}
+use Rattle.bleed.specs.Walk.WalkLaws.{only-wanting, no-waste}
+use Rattle.bleed.specs.Walk.History.{resting, startCell, bleds}
 
 -- Cell k wants, and no other.
 abbrev pub only : ℕ → ℕ → Bool

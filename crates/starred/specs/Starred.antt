@@ -9,21 +9,21 @@ use lib.IntN.{ℤ, pos}
 use lib.ListN.{length, replicate, take}
 use Rattle.crc.specs.CheckByte.{timesX, timesXs, withByte, remainder, checkByte}
 use Rattle.units.specs.Signed.{wordOf}
-use Rattle.ranges.specs.Ranges.{wordAt, within}
-use Rattle.page.specs.Page.{judged}
-use Rattle.page.specs.Walk.{judged-is}
-use Rattle.page.specs.declared.Verdict.{Verdict}
-use Rattle.page.specs.declared.Verdict.the-variants.{Accepted, Refused}
-use Rattle.quantities.specs.Cases.{minus, sampled}
+use Rattle.page_words.specs.Ranges.{wordAt, within}
+use Rattle.page_judge.specs.Page.{judged}
+use Rattle.page_judge.specs.Walk.{judged-is}
+use Rattle.refusals.specs.declared.Verdict.{Verdict}
+use Rattle.refusals.specs.declared.Verdict.the-variants.{Accepted, Refused}
+use Rattle.sample.specs.Cases.{minus, sampled}
 use Rattle.guard.specs.Cases.{limited, high, fromHistory, starred-history}
-use Rattle.walk.specs.Walk.{has}
-use Rattle.walk.specs.History.{bleds}
-use Rattle.walk.specs.Cases.{bled, starred-walk, every-second}
-use Rattle.samples.specs.Samples.{cellsFit, sampleRefusals, sampleVerdict}
-use Rattle.settings.specs.Cases.{worked}
-use Rattle.state.specs.Past.{past}
-use Rattle.commands.specs.Table.{table, rowOf}
-use Rattle.sent.specs.Words.{packWord, sentWord, wordAfter}
+use Rattle.bleed.specs.Walk.Walk.{has}
+use Rattle.bleed.specs.Walk.History.{bleds}
+use Rattle.bleed.specs.Walk.Cases.{bled, starred-walk, every-second}
+use Rattle.pack_refusals.specs.Samples.{cellsFit, sampleRefusals, sampleVerdict}
+use Rattle.page_settings.specs.Cases.{worked}
+use Rattle.pack_state.specs.Past.{past}
+use Rattle.bus_table.specs.Table.{table, rowOf}
+use Rattle.bus_words.specs.Words.{packWord, sentWord, wordAfter}
 use Rattle.bus.specs.Replies.{notInTable, cellAbove, replyRefusals, repliedFor, frameOf, repliedAfter, bufferAfter}
 use Rattle.starred.specs.EverySecond.{only, everySecond, bled-every-second}
 

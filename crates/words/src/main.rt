@@ -4,11 +4,11 @@
 ghost use Prim.Native.Nat.{_≤_, _<_};
 ghost use lib.ListN.{length};
 ghost use Rattle.pack.specs.Kept.{Kept};
-use bus::Replied;
+use bus::answer::Replied;
 use libc::STDERR_FILENO;
 use libc::STDOUT_FILENO;
-use page::Verdict;
-use state::Pack;
+use pack_state::Pack;
+use refusals::Verdict;
 
 // How many bytes of a buffer were filled, and whether no read failed.
 struct Got {
@@ -80,7 +80,7 @@ fn pass_part(p: Pack, buf: &mut [u8], have: usize, out: &mut [u8]) -> Part
     ensures { λ r. ⌜ Kept (r .pack) × (r .held ≤ length (now (buf .entry))) ⌝ }
 {
     let waiting = &mut buf[..have];
-    let r = log::feed(p, waiting, out);
+    let r = log::chunk::feed(p, waiting, out);
     let k = r.pack;
     Part {
         ok: true,
@@ -140,7 +140,7 @@ fn after_last(p: Pack, held: &[u8]) -> Pack
     if held.len() == 0 {
         return p;
     }
-    let t = telling::tell(p, held);
+    let t = log_answers::tell(p, held);
     let k = t.pack;
     k
 }
@@ -163,7 +163,7 @@ fn write_word(p: Pack, command: u8) -> bool
     io::print_hex(STDOUT_FILENO, command as u64, 2);
     io::write_all(STDOUT_FILENO, b"\t");
     let mut three = [0u8; 3];
-    let answer = replies::reply(p, command, &mut three);
+    let answer = bus::reply::reply(p, command, &mut three);
     match answer {
         Replied::Sent => put_bytes(three),
         Replied::Refused { number } => put_refused(number),
@@ -201,7 +201,7 @@ fn answer(name: &[u8], fd: i32, p: Pack, buf: &mut [u8], first: usize, out: &mut
 fn words(page: &[u8], name: &[u8], fd: i32, buf: &mut [u8], first: usize, out: &mut [u8])
     requires { ⌜ first ≤ length (now buf) ⌝ }
 {
-    let b = ends::begin(page, out);
+    let b = log::ends::begin(page, out);
     let verdict = b.verdict;
     match verdict {
         Verdict::Accepted => {

@@ -13,14 +13,14 @@ use Rattle.laws.specs.Tests.{and-left, and-right}
 use Rattle.units.specs.Signed.{signedOf}
 use Rattle.crc.specs.CheckByte.{timesX, timesXs, withByte, remainder, checkByte}
 use Rattle.protections.specs.Table.{rowAt, table}
-use Rattle.ranges.specs.Ranges.{wordAt, within, degreesFit, levelFits, levelOf}
-use Rattle.page.specs.Page.{refusals, judged}
-use Rattle.faults.specs.Met.{reservedMet, rangeMet, wordOfMet, levelMet, orderedAt, orderMet, met}
-use Rattle.page.specs.Walk.{lowestFrom, lowestFault, faultsOf, judged-is}
-use Rattle.page.specs.Swapped.{swapped}
-use Rattle.page.specs.Worked.{workedPage, put, minus, Change, changed, sealed, pageWith}
-use Rattle.page.specs.declared.Verdict.{Verdict}
-use Rattle.page.specs.declared.Verdict.the-variants.{Accepted, Refused}
+use Rattle.page_words.specs.Ranges.{wordAt, within, degreesFit, levelFits, levelOf}
+use Rattle.page_judge.specs.Page.{refusals, judged}
+use Rattle.page_faults.specs.Met.{reservedMet, rangeMet, wordOfMet, levelMet, orderedAt, orderMet, met}
+use Rattle.page_judge.specs.Walk.{lowestFrom, lowestFault, faultsOf, judged-is}
+use Rattle.page_judge.specs.Swapped.{swapped}
+use Rattle.page_judge.specs.Worked.{workedPage, put, minus, Change, changed, sealed, pageWith}
+use Rattle.refusals.specs.declared.Verdict.{Verdict}
+use Rattle.refusals.specs.declared.Verdict.the-variants.{Accepted, Refused}
 
 -- Whether two verdicts are the same.
 abbrev agree : Verdict → Verdict → Bool

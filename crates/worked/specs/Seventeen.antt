@@ -7,18 +7,18 @@ use mathlib.Core.List.{List}
 use Prim.Native.Nat.{ℕ}
 use lib.Dec.{ltb, leb, eqb}
 use Rattle.laws.specs.Tests.{by-test}
-use Rattle.quantities.specs.declared.Sample.{Sample}
-use Rattle.quantities.specs.Cells.{lookedAt}
-use Rattle.samples.specs.Samples.{cellsFit, temperatureFits, sampleRefusals, sampleVerdict, commandRefusals, commandVerdict}
-use Rattle.state.specs.declared.Pack.{Pack}
+use Rattle.sample.specs.declared.Sample.{Sample}
+use Rattle.sample.specs.Cells.{lookedAt}
+use Rattle.pack_refusals.specs.Samples.{cellsFit, temperatureFits, sampleRefusals, sampleVerdict, commandRefusals, commandVerdict}
+use Rattle.pack_state.specs.declared.Pack.{Pack}
 use Rattle.pack.specs.Answers.{offered, commanded}
-use Rattle.entries.specs.declared.Kind.{Kind}
-use Rattle.entries.specs.declared.Kind.the-variants.{Offer, Command, Malformed}
-use Rattle.entries.specs.declared.Entry.{Entry}
-use Rattle.entries.specs.Entry.{entryOf}
-use Rattle.shown.specs.declared.Told.{Told}
-use Rattle.shown.specs.declared.Told.the-variants.{Decided, Refused}
-use Rattle.telling.specs.Turns.{toldBy, answeredAs, turnedBy, turnOf}
+use Rattle.log_entries.specs.declared.Kind.{Kind}
+use Rattle.log_entries.specs.declared.Kind.the-variants.{Offer, Command, Malformed}
+use Rattle.log_entries.specs.declared.Entry.{Entry}
+use Rattle.log_entries.specs.Entry.{entryOf}
+use Rattle.log_answers.specs.declared.Told.{Told}
+use Rattle.log_answers.specs.declared.Told.the-variants.{Decided, Refused}
+use Rattle.log_answers.specs.Turns.{toldBy, answeredAs, turnedBy, turnOf}
 
 -- Whether a line was refused with 17.
 abbrev pub isSeventeen : Told → Bool

@@ -1,6 +1,6 @@
 -- `pack::fresh_balance` meets its contract. Assumes nothing.
 use mathlib.Core.Path.{refl}
-use Rattle.state.specs.State.{freshBalance}
+use Rattle.pack_state.specs.State.{freshBalance}
 use Rattle.pack.proofs.fresh_balance.Statement.{statement}
 use Rattle.pack.proofs.fresh_balance.Tie as tie
 

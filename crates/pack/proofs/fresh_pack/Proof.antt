@@ -1,5 +1,5 @@
 -- `pack::fresh_pack` meets its contract. Assumes nothing.
-use Rattle.state.specs.State.{freshPack}
+use Rattle.pack_state.specs.State.{freshPack}
 use borrow.Author.Needs.{needs}
 use Rattle.pack.proofs.fresh_pack.Statement.{statement}
 use Rattle.pack.proofs.fresh_pack.Tie as tie

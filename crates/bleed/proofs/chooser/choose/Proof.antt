@@ -1,0 +1,61 @@
+-- `bleed::choose` meets its contract. The loop's invariant: what the cells that are left make of the word is what all cells make
+-- of the empty one, so that at the end the word is the whole walk's.
+-- Assumes nothing.
+use mathlib.Core.Path.{_≡_, refl, sym, _∙_}
+use native.Mathlib.Omega.{arith}
+use borrow.Author.Needs.{needs}
+use Rattle.bleed.specs.Walk.Steps.{takeFrom}
+use Rattle.bleed.specs.Walk.StepLaws.{take-on, take-none, chosen-is, chosen-meets, chosen-none}
+use Rattle.bleed.proofs.chooser.choose.Statement.{statement}
+use Rattle.bleed.proofs.chooser.choose.Tie as tie
+
+abbrev Inv-loop : tie.InvT-loop
+Inv-loop n most want rest taken₀ cell₀ left₀ taken cell left =
+    takeFrom left n most want rest (cell .0) taken ≡ takeFrom n n most want rest (cell₀ .0) 0
+
+abbrev μ-loop : tie.MeasureT-loop
+μ-loop n most want rest taken₀ cell₀ left₀ taken cell left = left
+
+returns : tie.Need-returns Inv-loop μ-loop
+returns c = chosen-meets _ _ _ _ _ _ (c .before .pre) (rw (c .if1 .taken) (sym (chosen-none _ _ _ _)))
+
+loop-holds : tie.Need-loop-holds Inv-loop μ-loop
+loop-holds c = refl
+
+take-one-requires : tie.Need-take-one-requires Inv-loop μ-loop
+take-one-requires c κs = search needs
+
+next-start-requires : tie.Need-next-start-requires Inv-loop μ-loop
+next-start-requires c κs = search needs
+
+sub-left : tie.Need-sub-left Inv-loop μ-loop
+sub-left c = search needs
+
+loop-less : tie.Need-loop-less Inv-loop μ-loop
+loop-less c = omega arith
+
+loop-again : tie.Need-loop-again Inv-loop μ-loop
+loop-again c =
+    rw (c .next-start .ensures, c .before .take-one .ensures)
+    (sym (take-on _ _ _ _ _ _ _ (c .before .before .loop-test .taken)) ∙ c .before .before .before .loop .inv)
+
+returns-2 : tie.Need-returns-2 Inv-loop μ-loop
+returns-2 c =
+    let e : c .before .loop .left ≡ 0 = omega arith in
+    chosen-meets _ _ _ _ _ _ (c .before .before .before .pre)
+    (sym (take-none _ _ _ _ _ _) ∙ (rw e at (c .before .loop .inv)) ∙ chosen-is _ _ _ _ _ (c .before .before .before .pre))
+
+pub choose-spec : {M : Type 1} → statement M
+choose-spec =
+    tie.close
+    (tie.spec
+    Inv-loop
+    μ-loop
+    returns
+    loop-holds
+    take-one-requires
+    next-start-requires
+    sub-left
+    loop-less
+    loop-again
+    returns-2)

@@ -1,0 +1,70 @@
+-- `turns::resting` meets its contract. The loop's invariant: the word is that of the resting cells of the pack among the first i.
+-- Assumes nothing.
+use Prim.Native.Nat.{_≤_, _-_}
+use mathlib.Core.Path.{_≡_, refl, _∙_}
+use mathlib.Core.Bool.{_&&_}
+use native.Mathlib.Omega.{arith}
+use lib.Dec.{leb}
+use borrow.Author.Needs.{needs}
+use Rattle.bleed_wants.specs.Word.{wordTo, wordTo-next, wordTo-within}
+use Rattle.bleed_wants.specs.Steps.{tenAtMost}
+use Rattle.bleed.specs.Resting.Steps.{rested, restingWord}
+use Rattle.bleed.specs.Resting.StepLaws.{rested-at}
+use Rattle.bleed.proofs.resting.resting.Statement.{statement}
+use Rattle.bleed.proofs.resting.resting.Tie as tie
+
+abbrev Inv-loop : tie.InvT-loop
+Inv-loop n limit runs word₀ i₀ word i = (i ≤ 10) × (word ≡ wordTo i (λ k. leb k n && rested limit runs k))
+
+abbrev μ-loop : tie.MeasureT-loop
+μ-loop n limit runs word₀ i₀ word i = 10 - i
+
+loop-holds : tie.Need-loop-holds Inv-loop μ-loop
+unfolding wordTo
+loop-holds c = (omega arith, refl)
+
+cast-rests-one : tie.Need-cast-rests-one Inv-loop μ-loop
+cast-rests-one c = search needs
+
+array-read-rests-one : tie.Need-array-read-rests-one Inv-loop μ-loop
+array-read-rests-one c = search needs
+
+rests-one-requires : tie.Need-rests-one-requires Inv-loop μ-loop
+rests-one-requires c κs = search needs
+
+with-bit-if-requires : tie.Need-with-bit-if-requires Inv-loop μ-loop
+with-bit-if-requires c κs = search needs
+
+add-i : tie.Need-add-i Inv-loop μ-loop
+add-i c = search needs
+
+loop-less : tie.Need-loop-less Inv-loop μ-loop
+loop-less c = omega arith
+
+loop-again : tie.Need-loop-again Inv-loop μ-loop
+loop-again c =
+    let a = c .before .before .before .before .args in (
+      omega arith,
+      wordTo-next _ _ _ _ _ (c .before .before .before .loop .inv .1)
+          (c .before .rests-one .ensures ∙ rested-at (a .n) (a .limit) _ (c .before .before .before .loop .i)) (c .with-bit-if .ensures),
+    )
+
+returns : tie.Need-returns Inv-loop μ-loop
+unfolding restingWord tenAtMost
+returns c = let e : c .before .loop .i ≡ 10 = omega arith in (rw e at (c .before .loop .inv .1)) ∙ wordTo-within 10 _ _
+
+pub resting-spec : {M : Type 1} → statement M
+resting-spec =
+    tie.close
+    (tie.spec
+    Inv-loop
+    μ-loop
+    loop-holds
+    cast-rests-one
+    array-read-rests-one
+    rests-one-requires
+    with-bit-if-requires
+    add-i
+    loop-less
+    loop-again
+    returns)

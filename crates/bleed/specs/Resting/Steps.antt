@@ -1,0 +1,39 @@
+-- Whose turn it is at the next sample: the start cell, the run counters, and who rests, as a word.
+-- Assumes nothing.
+use mathlib.Core.Bool.{Bool, cond}
+use mathlib.Core.List.{List}
+use Prim.Native.Nat.{ℕ, _+_, _-_}
+use lib.Dec.{leb, ltb}
+use lib.ListN.{getD}
+use Rattle.laws.specs.Bits.{hasBit}
+use Rattle.laws.specs.Each.{eachTo}
+use Rattle.bleed_wants.specs.Word.{wordTo}
+use Rattle.bleed_wants.specs.Steps.{tenAtMost}
+
+-- The cell after k, from n to 1.
+unfoldable pub nextCell : ℕ → ℕ → ℕ
+nextCell n k = cond (ltb k n) (k + 1) 1
+
+-- A run of bled samples goes on by one or ends; a byte holds it, and it is never over R, which is 240 at most.
+unfoldable pub nextRun : Bool → ℕ → ℕ
+nextRun bled run = cond bled (cond (ltb run 255) (run + 1) run) 0
+
+-- The run counters of the first m cells after a sample, and the others as they were: cell i + 1 has bit i and entry i.
+abbrev pub nextRunsTo : ℕ → ℕ → List ℕ → List ℕ
+nextRunsTo bled m runs = eachTo 0 (λ i run. nextRun (hasBit bled i) run) m runs
+
+-- The run counters of all ten cells after a sample.
+unfoldable pub nextRuns : ℕ → List ℕ → List ℕ
+nextRuns bled runs = nextRunsTo bled 10 runs
+
+-- The run counter of cell k, from an array whose first entry is cell 1's.
+unfoldable pub runOf : List ℕ → ℕ → ℕ
+runOf runs k = getD runs (k - 1) 0
+
+-- The run of bled samples of cell k has reached R.
+unfoldable pub rested : ℕ → List ℕ → ℕ → Bool
+rested R runs k = leb R (runOf runs k)
+
+-- The word of the cells that rest.
+unfoldable pub restingWord : ℕ → ℕ → List ℕ → ℕ
+restingWord n R runs = wordTo (tenAtMost n) (rested R runs)

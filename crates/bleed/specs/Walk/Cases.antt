@@ -1,0 +1,121 @@
+-- Document 01's worked samples of bleeding and a case for each of its slips, computed from the definitions; and that n samples would
+-- not do where n + 1 do.
+-- Assumes nothing.
+use mathlib.Core.Path.{_≡_, refl}
+use mathlib.Core.Bool.{Bool, true, _&&_}
+use mathlib.Core.List.{List, [], _∷_, _++_, map, reverse}
+use mathlib.Core.Logic.{⊎-elim}
+use Prim.Native.Nat.{ℕ, zero, suc, _+_, _-_, _≤_, _<_}
+use native.Mathlib.Nat.{eq-or-lt-of-le}
+use native.Mathlib.Omega.{arith}
+use lib.Dec.{eqb}
+use lib.ListN.{take, replicate}
+use borrow.Author.Tests.{eqb-true}
+use Rattle.laws.specs.Tests.{and-left, and-right}
+use Rattle.laws.specs.Bits.{withBit}
+use Rattle.laws.specs.Latest.{lastAll, among}
+use Rattle.bleed.specs.Walk.Walk.{has, upFrom}
+use Rattle.bleed.specs.Walk.History.{wantsCell, bleds}
+use Rattle.bleed.specs.Walk.Word.{wordOf}
+
+-- The cells that want at each sample, in the order of time, as a history of wishes.
+abbrev pub history : List (List ℕ) → List (ℕ → Bool)
+history ls = reverse (map (λ l k. has k l) ls)
+
+-- The cells bled at each sample, in the order of time; within a sample the latest taken first.
+abbrev pub bled : ℕ → ℕ → ℕ → List (List ℕ) → List (List ℕ)
+bled n K R ls = reverse (bleds n K R (history ls))
+
+-- ---- the worked samples
+
+-- n 3, K 1, R 1: none want at samples 1 and 2.
+abbrev pub starred : List (List ℕ)
+starred = [] ∷ [] ∷ (1 ∷ 2 ∷ []) ∷ (1 ∷ 3 ∷ []) ∷ (1 ∷ 2 ∷ []) ∷ (1 ∷ 3 ∷ []) ∷ (1 ∷ 2 ∷ []) ∷ []
+
+pub starred-walk : bled 3 1 1 starred ≡ [] ∷ [] ∷ (1 ∷ []) ∷ (3 ∷ []) ∷ (2 ∷ []) ∷ (3 ∷ []) ∷ (1 ∷ []) ∷ []
+starred-walk = refl
+
+-- R 1, one cell always wanting, no others.
+pub every-second : bled 3 1 1 (replicate 6 (2 ∷ [])) ≡ (2 ∷ []) ∷ [] ∷ (2 ∷ []) ∷ [] ∷ (2 ∷ []) ∷ [] ∷ []
+every-second = refl
+
+-- ---- the slips
+
+-- A resting cell does not shut out its neighbour: at the second sample cell 2 is walked over first, and rests.
+resting-blocks-nobody : bled 3 2 1 ((2 ∷ []) ∷ (2 ∷ 3 ∷ []) ∷ []) ≡ (2 ∷ []) ∷ (3 ∷ []) ∷ []
+resting-blocks-nobody = refl
+
+-- The start cell moves though nothing was bled, and from n to 1.
+start-moves : bled 2 1 4 ([] ∷ (1 ∷ 2 ∷ []) ∷ (1 ∷ 2 ∷ []) ∷ []) ≡ [] ∷ (2 ∷ []) ∷ (1 ∷ []) ∷ []
+start-moves = refl
+
+start-wraps : bled 3 1 4 (replicate 4 (1 ∷ 2 ∷ 3 ∷ [])) ≡ (1 ∷ []) ∷ (2 ∷ []) ∷ (3 ∷ []) ∷ (1 ∷ []) ∷ []
+start-wraps = refl
+
+-- Cells 1 and n are no neighbours, unless n is 2.
+no-ring : bled 10 2 4 ((1 ∷ 10 ∷ []) ∷ []) ≡ (10 ∷ 1 ∷ []) ∷ []
+no-ring = refl
+
+two-cells : bled 2 2 4 ((1 ∷ 2 ∷ []) ∷ []) ≡ (1 ∷ []) ∷ []
+two-cells = refl
+
+-- Neither the cell after a taken one nor the cell before it is taken, and a refused cell blocks nobody; K are taken and no more.
+refused-blocks-nobody : bled 5 2 4 ([] ∷ (1 ∷ 2 ∷ 3 ∷ 4 ∷ 5 ∷ []) ∷ []) ≡ [] ∷ (4 ∷ 2 ∷ []) ∷ []
+refused-blocks-nobody = refl
+
+most-taken : bled 5 2 4 ((1 ∷ 3 ∷ 5 ∷ []) ∷ []) ≡ (3 ∷ 1 ∷ []) ∷ []
+most-taken = refl
+
+-- R samples in a row, and no more.
+run-limit : bled 2 1 2 (replicate 5 (1 ∷ [])) ≡ (1 ∷ []) ∷ (1 ∷ []) ∷ [] ∷ (1 ∷ []) ∷ (1 ∷ []) ∷ []
+run-limit = refl
+
+-- ---- the words
+
+-- Cell 1 is bit 0, cell 10 is bit 9.
+ends-of-a-word : wordOf (1 ∷ 10 ∷ []) ≡ 0x201
+unfolding withBit
+ends-of-a-word = refl
+
+-- ---- n would not do
+
+-- Cell 1 wants at the latest n samples of the history and is bled at none of them.
+abbrev starves : ℕ → ℕ → ℕ → List (ℕ → Bool) → Bool
+starves n K R ws = lastAll n (wantsCell 1) ws && eqb (among n (has 1) (bleds n K R ws)) 0
+
+-- Cell 1 is bled at the sample before its own start turn. It rests at that turn, and at each later one the start cell wants too.
+abbrev pub waiting : ℕ → List (ℕ → Bool)
+waiting n = history (replicate (n - 1) [] ++ (1 ∷ []) ∷ map (λ k. 1 ∷ k ∷ []) (upFrom 1 n))
+
+-- Two cells need three samples as well where any wishes may come. (Of two cells of a pack only one can exceed the lowest, and there two samples do.)
+abbrev both : List (List ℕ)
+both = (1 ∷ []) ∷ (1 ∷ []) ∷ (1 ∷ 2 ∷ []) ∷ (1 ∷ 2 ∷ []) ∷ []
+
+both-bled : bled 2 1 2 both ≡ (1 ∷ []) ∷ (1 ∷ []) ∷ (2 ∷ []) ∷ (2 ∷ []) ∷ []
+both-bled = refl
+
+abbrev all : (ℕ → Bool) → List ℕ → Bool
+all p [] = true
+all p (k ∷ l) = p k && all p l
+
+-- The worked sample up to its sixth, the two cells, and a history for each n from 2 to 10.
+all-starve :
+    starves 3 1 1 (history (take 6 starred)) && starves 2 1 2 (history both) && all (λ n. starves n 1 1 (waiting n)) (upFrom 2 9) ≡ true
+all-starve = refl
+
+all-at : (p : ℕ → Bool) (a m k : ℕ) → all p (upFrom a m) ≡ true → a ≤ k → k < a + m → p k ≡ true
+all-at p a zero k e h q = let z : ⊥ = omega arith in absurd z
+all-at p a (suc m) k e h q =
+    ⊎-elim
+    (λ (same : a ≡ k). rw (← same) (and-left (p a) (all p (upFrom (suc a) m)) e))
+    (λ (later : a < k). all-at p (suc a) m k (and-right (p a) (all p (upFrom (suc a) m)) e) later (omega arith))
+    (eq-or-lt-of-le h)
+
+-- "Students always say n would do. It won't."
+pub n-is-too-few : (n : ℕ) → 2 ≤ n → n ≤ 10
+    → (lastAll n (wantsCell 1) (waiting n) ≡ true) × (among n (has 1) (bleds n 1 1 (waiting n)) ≡ 0)
+n-is-too-few n h t =
+    let e : starves n 1 1 (waiting n) ≡ true = all-at (λ m. starves m 1 1 (waiting m)) 2 9 n all-starve h (omega arith) in (
+      and-left (lastAll n (wantsCell 1) (waiting n)) (eqb (among n (has 1) (bleds n 1 1 (waiting n))) 0) e,
+      eqb-true (among n (has 1) (bleds n 1 1 (waiting n))) 0 (and-right (lastAll n (wantsCell 1) (waiting n)) (eqb (among n (has 1) (bleds n 1 1 (waiting n))) 0) e),
+    )

@@ -1,0 +1,45 @@
+-- What the code works out at one sample, from the words of who wants and who rests.
+-- Assumes nothing.
+use mathlib.Core.Path.{_≡_}
+use mathlib.Core.Bool.{Bool, true, not, _&&_, _||_}
+use Prim.Native.Nat.{ℕ, zero, suc, _+_, _-_, _≤_}
+use lib.Dec.{ltb}
+use lib.Count.{ones}
+use Rattle.laws.specs.Bits.{hasBit}
+use Rattle.bleed_wants.specs.Word.{inWord}
+use Rattle.bleed.specs.Resting.Steps.{nextCell}
+use Rattle.bleed.specs.Walk.Walk.{chosen}
+use Rattle.bleed.specs.Walk.Word.{withCellIf, wordOf}
+
+-- The word of the walk's cells: which cells want and which rest are words too.
+unfoldable pub chosenWord : ℕ → ℕ → ℕ → ℕ → ℕ → ℕ
+chosenWord n K want rest start = wordOf (chosen n K (inWord want) (inWord rest) start)
+
+-- The start cell is a cell of the pack, which has ten at most.
+pub record CellOf (n k : ℕ) : Type 0 where
+  pub ten : n ≤ 10
+  pub first : 1 ≤ k
+  pub last : k ≤ n
+
+-- What is promised of the chosen word: it is the walk's, it has no more set bits than K, and no two neighbouring bits.
+pub record Chosen (n K want rest start word : ℕ) : Type 0 where
+  pub walked : word ≡ chosenWord n K want rest start
+  pub few : ones word ≤ K
+  pub apart : (i : ℕ) → hasBit word i ≡ true → hasBit word (i + 1) ≡ true → ⊥
+
+-- ---- the walk, one cell after the other
+
+-- A neighbour of cell k is taken: cell k - 1 has bit k - 2, cell k + 1 has bit k.
+unfoldable pub besideTaken : ℕ → ℕ → Bool
+besideTaken taken k = ltb 1 k && hasBit taken (k - 2) || hasBit taken k
+
+unfoldable pub mayTake : ℕ → ℕ → ℕ → ℕ → ℕ → Bool
+mayTake K want rest taken k = inWord want k && not (inWord rest k) && not (besideTaken taken k) && ltb (ones taken) K
+
+unfoldable pub takeOne : ℕ → ℕ → ℕ → ℕ → ℕ → ℕ
+takeOne K want rest taken k = withCellIf (mayTake K want rest taken k) taken k
+
+-- The word after the next j cells, from cell k on.
+unfoldable pub takeFrom : ℕ → ℕ → ℕ → ℕ → ℕ → ℕ → ℕ → ℕ
+takeFrom zero n K want rest k taken = taken
+takeFrom (suc j) n K want rest k taken = takeFrom j n K want rest (nextCell n k) (takeOne K want rest taken k)

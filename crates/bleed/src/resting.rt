@@ -1,0 +1,72 @@
+// Whose turn it is, cell by cell: the start cell of the next sample, the runs of bled samples, and who rests.
+ghost use mathlib.Core.Path.{_≡_};
+ghost use mathlib.Core.Bool.{_&&_};
+ghost use lib.Dec.{leb, ltb};
+ghost use Rattle.bleed.specs.Resting.Steps.{nextCell, nextRun, nextRuns, restingWord};
+use laws::has_bit;
+use laws::with_bit_if;
+use units::CellNo;
+
+// The start cell goes on by one, from n to 1.
+pub fn next_start(n: u8, start: CellNo) -> CellNo
+    ensures { λ r. ⌜ r ≡ record { 0 = nextCell n (start .0) } ⌝ }
+{
+    let k = start.0;
+    if k < n {
+        return CellNo(k + 1);
+    }
+    CellNo(1)
+}
+
+// The run of a cell that was bled goes on, that of another ends. It stays where a byte ends.
+fn next_run(bled: bool, run: u8) -> u8
+    ensures { λ r. ⌜ r ≡ nextRun bled run ⌝ }
+{
+    if bled {
+        if run < 255 {
+            return run + 1;
+        }
+        return run;
+    }
+    0
+}
+
+// The run counters after a sample, for each of the ten cells at how many of the latest in a row it was bled.
+pub fn next_runs(bled: u16, runs: [u8; 10]) -> [u8; 10]
+    ensures { λ r. ⌜ r ≡ nextRuns bled runs ⌝ }
+{
+    // No cell was bled: every run ends.
+    if bled == 0 {
+        return [0; 10];
+    }
+    let mut next = runs;
+    let mut i: u8 = 0;
+    while i < 10 {
+        let at = i as usize;
+        let on = has_bit(bled, i);
+        next[at] = next_run(on, next[at]);
+        i += 1;
+    }
+    next
+}
+
+// Cell `at` + 1 rests: it is a cell of the pack, and its run has reached the limit R.
+fn rests_one(n: u8, limit: u8, at: u8, run: u8) -> bool
+    ensures { λ r. ⌜ r ≡ ltb at n && leb limit run ⌝ }
+{
+    at < n && limit <= run
+}
+
+// The cells that rest, of cells 1 to n: those whose run has reached the limit R. All ten entries are asked.
+pub fn resting(n: u8, limit: u8, runs: [u8; 10]) -> u16
+    ensures { λ r. ⌜ r ≡ restingWord n limit runs ⌝ }
+{
+    let mut word: u16 = 0;
+    let mut i: u8 = 0;
+    while i < 10 {
+        let on = rests_one(n, limit, i, runs[i as usize]);
+        word = with_bit_if(word, i, on);
+        i += 1;
+    }
+    word
+}

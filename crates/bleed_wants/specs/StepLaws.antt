@@ -1,0 +1,45 @@
+-- Laws of the word of who wants, as the code makes it.
+-- Assumes nothing.
+use mathlib.Core.Path.{_≡_, sym, ap}
+use mathlib.Core.Bool.{Bool, true, false}
+use mathlib.Core.List.{List}
+use mathlib.Core.Logic.{_⊎_, ⊎-elim}
+use Prim.Native.Nat.{ℕ, suc, _-_, _≤_}
+use native.Mathlib.Omega.{arith}
+use lib.Dec.{ltb}
+use lib.ListN.{getD}
+use borrow.Author.Tests.{ltb-true, ltb-false}
+use Rattle.laws.specs.Tests.{by-test}
+use Rattle.units.specs.declared.MilliVolts.{MilliVolts}
+use Rattle.bleed_wants.specs.Wants.{wants}
+use Rattle.bleed_wants.specs.Word.{wordTo-none}
+use Rattle.bleed_wants.specs.Steps.{tenAtMost, cellOf, wishes, wantingWord}
+
+pub ten-small : (n : ℕ) → tenAtMost n ≤ 10
+unfolding tenAtMost
+ten-small n = by-test (ltb n 10) (λ t. let q = ltb-true n 10 t in rw t (omega arith)) (λ t. rw t (omega arith))
+
+pub ten-is : (n : ℕ) → n ≤ 10 → tenAtMost n ≡ n
+unfolding tenAtMost
+ten-is n h = by-test (ltb n 10) (λ t. rw t) (λ t. let q = ltb-false n 10 t in rw t (omega arith))
+
+-- No cell wants where there is no charge or a protection is raised.
+pub wanting-none : (n : ℕ) (charges raised : Bool) (floor difference lowest : ℕ) (cells : List MilliVolts) → (charges ≡ false) ⊎ (raised ≡ true)
+    → wantingWord n charges raised floor difference lowest cells ≡ 0
+unfolding wantingWord wishes wants
+wanting-none n charges raised floor difference lowest cells =
+    ⊎-elim
+    (λ e. wordTo-none _ _ (λ k. rw e))
+    (λ e. wordTo-none _ _ (λ k. rw e (by-test charges (λ t. rw t) (λ t. rw t))))
+
+-- ---- one turn of the loop
+
+after-one : (i : ℕ) → suc i - 1 ≡ i
+after-one i = omega arith
+
+-- Cell i + 1 is entry i of the array.
+pub wishes-at : (charges raised : Bool) (floor difference lowest : ℕ) (cells : List MilliVolts) (i : ℕ)
+    → wants charges raised floor difference lowest (getD cells i (record { 0 = 0 }) .0) ≡ wishes charges raised floor difference lowest cells (suc i)
+unfolding wishes cellOf
+wishes-at charges raised floor difference lowest cells i =
+    ap (λ (x : ℕ). wants charges raised floor difference lowest (getD cells x (record { 0 = 0 }) .0)) (sym (after-one i))

@@ -1,0 +1,41 @@
+-- `replies::reply` meets its contract. Assumes nothing.
+use Rattle.bus.specs.Replies.{repliedTo, bytesAfter, sent-room}
+use mathlib.Core.Path.{sym, _∙_}
+use borrow.Author.Needs.{needs}
+use Rattle.bus.proofs.reply.reply.Statement.{statement}
+use Rattle.bus.proofs.reply.reply.Tie as tie
+
+answer-to-requires : tie.Need-answer-to-requires
+answer-to-requires c κs = search needs
+
+row-of-command-requires : tie.Need-row-of-command-requires
+row-of-command-requires c κs = search needs
+
+sent-word-requires : tie.Need-sent-word-requires
+sent-word-requires c κs = c .before .before .before .pre
+
+frame-requires : tie.Need-frame-requires
+frame-requires c κs = search needs
+
+put-requires : tie.Need-put-requires
+unfolding repliedTo
+put-requires c κs = λ e. sent-room _ _ _ _ (sym (c .before .before .before .before .answer-to .ensures) ∙ e)
+
+same-length : tie.Need-same-length
+same-length c = search needs
+
+returns : tie.Need-returns
+unfolding bytesAfter
+returns c = (c .before .before .before .before .before .before .before .answer-to .ensures, rw (← c .before .before .before .before .before .before .before .answer-to .ensures, ← c .before .before .before .before .before .before .row-of-command .ensures, ← c .before .before .before .before .before .sent-word .ensures, ← c .before .before .before .before .frame .ensures) (c .before .before .put .ensures))
+
+pub reply-spec : {M : Type 1} → statement M
+reply-spec =
+    tie.close
+    (tie.spec
+    answer-to-requires
+    row-of-command-requires
+    sent-word-requires
+    frame-requires
+    put-requires
+    same-length
+    returns)

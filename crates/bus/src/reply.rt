@@ -1,0 +1,40 @@
+// Replies: the three bytes that answer a command, in a lent buffer.
+ghost use mathlib.Core.Path.{_≡_};
+ghost use lib.ListN.{length};
+ghost use Rattle.pack.specs.Kept.{Kept};
+ghost use Rattle.bus.specs.Replies.{bytesFor, Fitting, repliedTo, bytesAfter};
+use crate::answer::Framed;
+use crate::answer::Replied;
+use crate::answer::answer_to;
+use crate::answer::frame;
+use bus_table::row_of_command;
+use bus_words::sent_word;
+use pack_state::Pack;
+
+// Puts the three bytes where the answer is `Sent`; a refusal leaves the buffer as it was.
+fn put(answer: Replied, f: Framed, out: &mut [u8])
+    requires { ⌜ Fitting answer (now out) ⌝ }
+    ensures { λ _. ⌜ now (out .exit) ≡ bytesFor answer f (now (out .entry)) ⌝ }
+{
+    match answer {
+        Replied::Sent => {
+            out[0] = f.low;
+            out[1] = f.high;
+            out[2] = f.check;
+        }
+        Replied::Refused { .. } => {}
+    }
+}
+
+// Answers a command into the lent buffer: refused with 12 to 15 and the buffer as it was, or its three bytes.
+pub fn reply(p: Pack, command: u8, out: &mut [u8]) -> Replied
+    requires { ⌜ Kept p ⌝ }
+    ensures { λ r. ⌜ r ≡ repliedTo p command (length (now (out .entry))) ⌝ }
+    ensures { λ r. ⌜ now (out .exit) ≡ bytesAfter p command (now (out .entry)) ⌝ }
+{
+    let answer = answer_to(p, command, out.len());
+    let word = sent_word(p, row_of_command(command));
+    let f = frame(command, word);
+    put(answer, f, out);
+    answer
+}

@@ -1,0 +1,165 @@
+// The words that are sent: for each row of the table of commands its word.
+ghost use mathlib.Core.Path.{_≡_};
+ghost use mathlib.Core.Bool.{cond};
+ghost use Prim.Native.Nat.{_*_, _≤_};
+ghost use Rattle.laws.specs.Bits.{hasBit};
+ghost use Rattle.sample.specs.Cells.{lookedAt};
+ghost use Rattle.guard_raised.specs.Words.{blocksAny};
+ghost use Rattle.pack.specs.Kept.{Kept};
+ghost use Rattle.bus_words.specs.Words.{sumTo, cellWord, heatRaised, packWord, sentWord, saidOf, statusOf, raisedAndSwitches, Bounded};
+use bleed_wants::is_charging;
+use bus_table::PackWord;
+use bus_table::Sends;
+use guard_raised::blocks;
+use guard_raised::raised_word;
+use laws::has_bit;
+use laws::with_bit_if;
+use pack_shown::mode;
+use pack_shown::switches;
+use pack_state::Pack;
+use page_settings::Rules;
+use sample::Sample;
+use sample::looked_at;
+use units::CellNo;
+use units::MilliVolts;
+use units::word_of;
+
+// The sum of the first `count` cells.
+fn sum_of(cells: [MilliVolts; 10], count: u8) -> u32
+    ensures { λ r. ⌜ r ≡ sumTo cells (lookedAt count) ⌝ }
+{
+    let n = looked_at(count);
+    let mut sum: u32 = 0;
+    let mut i: usize = 0;
+    while i < n {
+        let v = cells[i];
+        sum += v.0 as u32;
+        i += 1;
+    }
+    sum
+}
+
+// The sum of the cells of an accepted sample.
+fn sum_word(s: Sample) -> u16
+    requires { ⌜ sumTo (s .cells) (lookedAt (s .count)) ≤ 60000 ⌝ }
+    ensures { λ r. ⌜ r ≡ sumTo (s .cells) (lookedAt (s .count)) ⌝ }
+{
+    let cells = s.cells;
+    let sum = sum_of(cells, s.count);
+    sum as u16
+}
+
+// A cell's word; a number that no cell has reads as 0.
+fn cell_word(cells: [MilliVolts; 10], k: CellNo) -> u16
+    ensures { λ r. ⌜ r ≡ cellWord cells (k .0) ⌝ }
+{
+    let number = k.0;
+    if number == 0 {
+        return 0;
+    }
+    if 10 < number {
+        return 0;
+    }
+    let i = (number - 1) as usize;
+    let v = cells[i];
+    v.0
+}
+
+// n × word 7: ten cells of 6000 mV come to 60000.
+fn voltage_word(r: Rules) -> u16
+    requires { ⌜ r .n * r .voltage .0 ≤ 60000 ⌝ }
+    ensures { λ w. ⌜ w ≡ r .n * r .voltage .0 ⌝ }
+{
+    let v = (r.n as u32) * (r.voltage.0 as u32);
+    v as u16
+}
+
+// A word that is 0 if a raised protection blocks charge.
+fn unless_blocked(p: Pack, w: u16) -> u16
+    ensures { λ r. ⌜ r ≡ cond (blocksAny 0 (p .protections)) 0 w ⌝ }
+{
+    let ps = p.protections;
+    if blocks(ps, 0) {
+        return 0;
+    }
+    w
+}
+
+// Whether 5, 6 or 7 is raised.
+fn heat_raised(raised: u16) -> bool
+    ensures { λ r. ⌜ r ≡ heatRaised (hasBit raised) ⌝ }
+{
+    if has_bit(raised, 5) {
+        return true;
+    }
+    if has_bit(raised, 6) {
+        return true;
+    }
+    has_bit(raised, 7)
+}
+
+// Battery status.
+fn status(p: Pack) -> u16
+    ensures { λ r. ⌜ r ≡ statusOf (saidOf p) ⌝ }
+{
+    let rules = p.rules;
+    let latest = p.latest;
+    let ps = p.protections;
+    let raised = raised_word(ps);
+    let charging = is_charging(rules.detection, latest.current);
+    let w6 = with_bit_if(0, 6, !charging);
+    let w7 = with_bit_if(w6, 7, true);
+    let w11 = with_bit_if(w7, 11, blocks(ps, 1));
+    let w12 = with_bit_if(w11, 12, heat_raised(raised));
+    let w14 = with_bit_if(w12, 14, blocks(ps, 0));
+    with_bit_if(w14, 15, has_bit(raised, 0))
+}
+
+// The raised protections, and the switches that are on.
+fn raised_and_switches(p: Pack) -> u16
+    ensures { λ r. ⌜ r ≡ raisedAndSwitches (saidOf p) ⌝ }
+{
+    let ps = p.protections;
+    let raised = raised_word(ps);
+    let on = switches(p);
+    let w8 = with_bit_if(raised, 8, has_bit(on, 0));
+    with_bit_if(w8, 9, has_bit(on, 1))
+}
+
+// A word of the whole pack.
+fn pack_word(p: Pack, w: PackWord) -> u16
+    requires { ⌜ Bounded p ⌝ }
+    ensures { λ r. ⌜ r ≡ packWord (saidOf p) w ⌝ }
+{
+    let rules = p.rules;
+    let latest = p.latest;
+    let b = p.balance;
+    match w {
+        PackWord::Temperature1 => latest.t1.0,
+        PackWord::Temperature2 => latest.t2.0,
+        PackWord::Sum => sum_word(latest),
+        PackWord::Current => word_of(latest.current),
+        PackWord::ChargingCurrent => unless_blocked(p, word_of(rules.current)),
+        PackWord::ChargingVoltage => unless_blocked(p, voltage_word(rules)),
+        PackWord::Status => status(p),
+        PackWord::Mode => mode(p),
+        PackWord::Raised => raised_and_switches(p),
+        PackWord::Bled => b.bled,
+    }
+}
+
+// The word of a row; 0 where there is none.
+pub fn sent_word(p: Pack, row: Sends) -> u16
+    requires { ⌜ Kept p ⌝ }
+    ensures { λ r. ⌜ r ≡ sentWord (saidOf p) row ⌝ }
+{
+    match row {
+        Sends::Nothing => 0,
+        Sends::Cell(k) => {
+            let latest = p.latest;
+            let cells = latest.cells;
+            cell_word(cells, k)
+        }
+        Sends::Whole(w) => pack_word(p, w),
+    }
+}

@@ -1,9 +1,0 @@
--- Two results that one contract allows are equal. The contract is the one that Rattle reads out of the source.
--- Assumes nothing.
-use mathlib.Core.Path.{sym, _∙_}
-use Rattle.laws.specs.Unique.{Unique}
-use Rattle.entries.proofs.read_entry.Reads as read-entry
-use Rattle.entries.proofs.read_entry.Kinds as read-entry-kinds
-
-read-entry-one : Unique 1 read-entry-kinds.ps read-entry-kinds.r read-entry.Post
-read-entry-one κs a x y s t p q = p ∙ sym q

@@ -1,0 +1,90 @@
+// The run rule of document 01: what raises a protection and what releases it.
+ghost use mathlib.Core.Path.{_≡_};
+ghost use Prim.Native.Nat.{_<_};
+ghost use Rattle.protections.specs.Direction.{reaches, back};
+ghost use Rattle.guard.specs.Runs.{runOn, nextAlarm, RunWithin};
+ghost use Rattle.guard.specs.Steps.{stepOne, Within};
+use protections::Direction;
+use protections::Limits;
+
+// Clear, with its run of tripping samples; or raised, with its run of releasing samples.
+pub enum Alarm {
+    Clear(u8),
+    Raised(u8),
+}
+
+// One protection: what the page says of it, and whether it is raised.
+pub struct Protection {
+    pub limits: Limits,
+    pub alarm: Alarm,
+}
+
+fn has_reached(d: Direction, level: i32, value: i32) -> bool
+    ensures { λ r. ⌜ r ≡ reaches d level value ⌝ }
+{
+    match d {
+        Direction::Above => level <= value,
+        Direction::Below => value <= level,
+    }
+}
+
+fn opposite(d: Direction) -> Direction
+    ensures { λ r. ⌜ r ≡ back d ⌝ }
+{
+    match d {
+        Direction::Above => Direction::Below,
+        Direction::Below => Direction::Above,
+    }
+}
+
+// A run, one sample on: one longer if the sample counts, else none.
+fn run_on(counts: bool, run: u8) -> u8
+    requires { ⌜ run < 255 ⌝ }
+    ensures { λ r. ⌜ r ≡ runOn counts run ⌝ }
+{
+    if counts {
+        return run + 1;
+    }
+    0
+}
+
+// The run rule: a run of N tripping samples raises, a run of M releasing samples releases.
+fn next_alarm(n: u8, m: u8, trips: bool, qualifies: bool, a: Alarm) -> Alarm
+    requires { ⌜ RunWithin n m a ⌝ }
+    ensures { λ r. ⌜ r ≡ nextAlarm n m trips qualifies a ⌝ }
+{
+    match a {
+        Alarm::Clear(old) => {
+            let run = run_on(trips, old);
+            if n <= run {
+                Alarm::Raised(0)
+            } else {
+                Alarm::Clear(run)
+            }
+        }
+        Alarm::Raised(old) => {
+            let run = run_on(qualifies, old);
+            if m <= run {
+                Alarm::Clear(0)
+            } else {
+                Alarm::Raised(run)
+            }
+        }
+    }
+}
+
+// One protection, one sample on: `value` is what it looks at in the sample.
+pub fn step_one(d: Direction, value: i32, p: Protection) -> Protection
+    requires { ⌜ Within p ⌝ }
+    ensures { λ r. ⌜ r ≡ stepOne d value p ⌝ }
+{
+    let limits = p.limits;
+    let a = p.alarm;
+    let trips = has_reached(d, limits.trip, value);
+    let qualifies = has_reached(opposite(d), limits.release, value);
+    let next = next_alarm(limits.n, limits.m, trips, qualifies, a);
+    Protection {
+        limits: limits,
+        alarm: next,
+    }
+}

@@ -1,0 +1,65 @@
+-- Computed cases of the word of raised protections and of the blocked switches, which pin each bit.
+-- Assumes nothing.
+use mathlib.Core.Path.{_≡_, refl}
+use mathlib.Core.Bool.{Bool, true, false}
+use mathlib.Core.List.{List, [], _∷_}
+use Prim.Native.Nat.{ℕ}
+use lib.IntN.{ℤ, pos}
+use Rattle.laws.specs.Bits.{hasBit, withBit, withBitIf}
+use Rattle.laws.specs.Each.{eachTo}
+use Rattle.laws.specs.Numbered.{listFrom, listOf}
+use Rattle.protections.specs.declared.Limits.{Limits}
+use Rattle.protections.specs.Table.{rowAt, table}
+use Rattle.sample.specs.declared.Sample.{Sample}
+use Rattle.sample.specs.Cells.{bestOf, extremesOf}
+use Rattle.sample.specs.Measure.{measure}
+use Rattle.sample.specs.Cases.{minus, sampled}
+use Rattle.guard.specs.declared.rule.Protection.{Protection}
+use Rattle.guard.specs.Cases.{limited}
+use Rattle.guard.specs.Steps.{raised, protectionOf, protectionsOf, protectionsAfter, stepOne, stepWith, stepAllWith}
+use Rattle.guard_raised.specs.Words.{bitsOf, anyOf, raisedBits, raisedWord, blocksOne, blocksAny, blocked}
+
+-- Over voltage blocks charge after two samples, the second thermistor discharge after one, over charge current only reports.
+abbrev page : List Limits
+page =
+    limited (pos 4250) (pos 4150) 2 2 1
+    ∷ limited (pos 0) (pos 1) 1 1 3
+    ∷ limited (pos 900) (pos 800) 1 1 0
+    ∷ limited (minus 32768) (pos 0) 1 1 3
+    ∷ limited (minus 32768) (pos 0) 1 1 3
+    ∷ limited (pos 3930) (pos 3000) 1 1 3
+    ∷ limited (pos 3930) (pos 3000) 1 1 3
+    ∷ limited (pos 3330) (pos 3000) 1 1 2
+    ∷ []
+
+abbrev seen : ℕ → ℤ → ℕ → Sample
+seen cell current t2 = sampled 2 (4000 ∷ cell ∷ 0 ∷ 0 ∷ 0 ∷ 0 ∷ 0 ∷ 0 ∷ 0 ∷ 0 ∷ []) current 2980 t2
+
+-- The word, and whether charge and discharge are blocked, after a history (the latest sample first).
+pub record Said : Type 0 where
+  pub word : ℕ
+  pub charge : Bool
+  pub discharge : Bool
+
+abbrev said : ℕ → Bool → Bool → Said
+said w c d = record { word = w; charge = c; discharge = d }
+
+abbrev fromPage : List Sample → Said
+fromPage h = said (raisedWord page h) (blocked page h 0) (blocked page h 1)
+
+pub words-history
+    : (fromPage [] ∷ fromPage (seen 4260 (pos 0) 2980 ∷ []) ∷ fromPage (seen 4260 (pos 0) 2980 ∷ seen 4260 (pos 0) 2980 ∷ [])
+    ∷ fromPage (seen 4000 (pos 0) 3330 ∷ []) ∷ fromPage (seen 4000 (pos 900) 2980 ∷ [])
+    ∷ fromPage (seen 4260 (pos 900) 3330 ∷ seen 4250 (pos 0) 2980 ∷ []) ∷ [])
+    ≡ (said 0 false false ∷ said 0 false false ∷ said 1 true false ∷ said 128 false true ∷ said 4 false false ∷ said 133 true true ∷ [])
+unfolding raisedWord blocked bitsOf anyOf withBitIf withBit hasBit raised rowAt table measure extremesOf bestOf
+words-history = refl
+
+-- The same by the steps of the whole array from the load.
+abbrev fromArray : List Protection → Said
+fromArray ps = said (raisedBits ps) (blocksAny 0 ps) (blocksAny 1 ps)
+
+pub words-steps : fromArray (protectionsAfter page (seen 4260 (pos 900) 3330 ∷ seen 4250 (pos 0) 2980 ∷ [])) ≡ said 133 true true
+unfolding raisedBits blocksAny blocksOne bitsOf anyOf withBitIf withBit hasBit stepAllWith stepWith stepOne eachTo protectionsOf
+    protectionOf listOf listFrom rowAt table extremesOf bestOf
+words-steps = refl

@@ -1,8 +1,0 @@
--- Two results that one contract allows are equal, and so is the lent memory. The contracts are those that Rattle reads out of the source.
-use mathlib.Core.Path.{sym, _∙_}
-use Rattle.laws.specs.Unique.{Unique}
-use Rattle.inplace.proofs.number_at.Reads as number-at
-use Rattle.inplace.proofs.number_at.Kinds as number-at-kinds
-
-number-at-one : Unique 1 number-at-kinds.ps number-at-kinds.r number-at.Post
-number-at-one κs a x y s t p q = p ∙ sym q

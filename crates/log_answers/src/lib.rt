@@ -1,0 +1,77 @@
+// Telling: what a line of the log does to a pack, as a value.
+ghost use mathlib.Core.Path.{_≡_};
+ghost use Rattle.pack.specs.Kept.{Kept};
+ghost use Rattle.log_answers.specs.Turns.{answeredAs, turnedBy, turnOf};
+use log_entries::Entry;
+use log_entries::Kind;
+use pack::Answered;
+use pack_shown::Decision;
+use pack_state::Pack;
+use refusals::Verdict;
+
+// What a line is answered with, before it is text: the five fields of the pack's decision, or the number of the refusal.
+pub enum Told {
+    Decided(Decision),
+    Refused(u8),
+}
+
+// What a line is answered with, and the pack behind it.
+pub struct Turned {
+    pub told: Told,
+    pub pack: Pack,
+}
+
+fn turned_by(a: Answered) -> Turned
+    ensures { λ r. ⌜ r ≡ turnedBy a ⌝ }
+{
+    let verdict = a.verdict;
+    let p = a.pack;
+    match verdict {
+        Verdict::Accepted => {
+            let d = pack_shown::decide(p);
+            Turned {
+                told: Told::Decided(d),
+                pack: p,
+            }
+        }
+        Verdict::Refused { number, word: _ } => Turned {
+            told: Told::Refused(number),
+            pack: p,
+        },
+    }
+}
+
+// What a pack answers to a line that was read: a sample is offered, a command is given, and a malformed line is refused with 17 and moves
+// nothing.
+fn answered_by(p: Pack, e: Entry) -> Answered
+    requires { ⌜ Kept p ⌝ }
+    ensures { λ r. ⌜ r ≡ answeredAs (e .kind) p e ⌝ }
+    ensures { λ r. ⌜ Kept (r .pack) ⌝ }
+{
+    let kind = e.kind;
+    match kind {
+        Kind::Offer => {
+            let s = e.sample;
+            pack::offer(p, s)
+        }
+        Kind::Command => pack::command(p, e.command),
+        Kind::Malformed => Answered {
+            verdict: Verdict::Refused {
+                number: 17,
+                word: 0,
+            },
+            pack: p,
+        },
+    }
+}
+
+// What a line does to a pack.
+pub fn tell(p: Pack, line: &[u8]) -> Turned
+    requires { ⌜ Kept p ⌝ }
+    ensures { λ r. ⌜ r ≡ turnOf p (now (line .entry)) ⌝ }
+    ensures { λ r. ⌜ Kept (r .pack) ⌝ }
+{
+    let e = log_entries::read_entry(line);
+    let a = answered_by(p, e);
+    turned_by(a)
+}

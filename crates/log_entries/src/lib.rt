@@ -1,0 +1,151 @@
+// Entries: what a line of the log says, as a value. Each field is read as a part of the line.
+ghost use mathlib.Core.Path.{_≡_};
+ghost use Prim.Native.Nat.{_+_, _≤_};
+ghost use lib.ListN.{length, getD};
+ghost use Rattle.log_entries.specs.Entry.{malformed, offer, commandOf, sampleOf, entryOf};
+ghost use Rattle.log_entries.specs.Left.{left};
+ghost use Rattle.log_entries.specs.InTurn.{cellsOf, startOf};
+use sample::Sample;
+use sample::no_sample;
+use text_number_at::FieldNumber;
+use text_number_at::number_at;
+use text_numbers::Number;
+use text_numbers::Signed;
+use text_numbers::past_minus;
+use text_numbers::with_sign;
+use units::DeciKelvin;
+use units::MilliVolts;
+
+// What kind of line it is.
+pub enum Kind {
+    Offer,
+    Command,
+    Malformed,
+}
+
+// A line as a value: the command of an `F` line, the sample of an `S` line; what the line does not have is 0.
+pub struct Entry {
+    pub kind: Kind,
+    pub command: u16,
+    pub sample: Sample,
+}
+
+// A malformed line.
+fn no_entry() -> Entry
+    ensures { λ r. ⌜ r ≡ malformed ⌝ }
+{
+    let sample = no_sample();
+    Entry {
+        kind: Kind::Malformed,
+        command: 0,
+        sample: sample,
+    }
+}
+
+// `F` has the command, and no other field.
+fn read_command(line: &[u8], at: usize) -> Entry
+    ensures { λ r. ⌜ r ≡ commandOf (left (now (line .entry)) at) ⌝ }
+{
+    let n = line.len();
+    if n < at {
+        return no_entry();
+    }
+    let f = text_fields::field(line, at);
+    if f.len() < n - at {
+        return no_entry();
+    }
+    let Number::Value(c) = text_numbers::read_number(f) else {
+        return no_entry();
+    };
+    let sample = no_sample();
+    Entry {
+        kind: Kind::Command,
+        command: c,
+        sample: sample,
+    }
+}
+
+// An `S` line's sample, from its current and its numbers: behind the current's the two temperatures and `count` cells.
+fn offered(current: i16, numbers: [u16; 13], count: u8) -> Entry
+    ensures { λ r. ⌜ r ≡ offer current (getD numbers 1 0) (getD numbers 2 0) count (cellsOf numbers) ⌝ }
+{
+    let mut cells = [MilliVolts(0); 10];
+    let mut i: usize = 0;
+    while i < 10 {
+        cells[i] = MilliVolts(numbers[i + 3]);
+        i += 1;
+    }
+    Entry {
+        kind: Kind::Offer,
+        command: 0,
+        sample: Sample {
+            count: count,
+            cells: cells,
+            current: current,
+            t1: DeciKelvin(numbers[1]),
+            t2: DeciKelvin(numbers[2]),
+        },
+    }
+}
+
+// The numbers of an `S` line, whose fields from `from` on are read alike, thirteen at most; `below` says that a minus stands before them.
+fn read_numbers(line: &[u8], from: usize, below: bool) -> Entry
+    requires { ⌜ from ≤ length (now line) + 1 ⌝ }
+    ensures { λ r. ⌜ r ≡ startOf below (left (now (line .entry)) from) ⌝ }
+{
+    let mut numbers: [u16; 13] = [0; 13];
+    let mut count: usize = 0;
+    let mut at = from;
+    while at <= line.len() {
+        if 13 <= count {
+            return no_entry();
+        }
+        let n = number_at(line, at);
+        let FieldNumber::Value { number, end } = n else {
+            return no_entry();
+        };
+        numbers[count] = number;
+        count += 1;
+        at = end + 1;
+    }
+    if count < 3 {
+        return no_entry();
+    }
+    let c = with_sign(below, numbers[0]);
+    let Signed::Value(current) = c else {
+        return no_entry();
+    };
+    offered(current, numbers, (count - 3) as u8)
+}
+
+// `S` has current, temperature 1, temperature 2 and the cells; only the current may have a minus.
+fn read_sample(line: &[u8], from: usize) -> Entry
+    requires { ⌜ from ≤ length (now line) + 1 ⌝ }
+    ensures { λ r. ⌜ r ≡ sampleOf (left (now (line .entry)) from) ⌝ }
+{
+    let start = past_minus(line, from);
+    read_numbers(line, start, from < start)
+}
+
+// What a line says. A carriage return is in no field that can be read, so that it is not looked for.
+pub fn read_entry(line: &[u8]) -> Entry
+    ensures { λ r. ⌜ r ≡ entryOf (now (line .entry)) ⌝ }
+{
+    if 128 < line.len() {
+        return no_entry();
+    }
+    if line.len() < 2 {
+        return no_entry();
+    }
+    if line[1] != 9 {
+        return no_entry();
+    }
+    let letter = line[0];
+    if letter == 83 {
+        return read_sample(line, 2);
+    }
+    if letter == 70 {
+        return read_command(line, 2);
+    }
+    no_entry()
+}

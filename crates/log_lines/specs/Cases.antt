@@ -1,0 +1,61 @@
+-- Worked cases, computed: what a reader can check by eye.
+use Prim.Native.Nat.{ℕ, suc}
+use mathlib.Core.Path.{_≡_, refl}
+use mathlib.Core.Bool.{true, false}
+use mathlib.Core.List.{List, [], _∷_, _++_}
+use lib.ListN.{replicate}
+use Rattle.text_fields.specs.Finding.{before}
+use Rattle.log_lines.specs.Lines.{linesOf, nextLine}
+use Rattle.log_lines.specs.Carrying.{carriedOf, movedDown}
+use Rattle.log_lines.specs.Walking.{whole}
+use Rattle.log_lines.specs.Output.{output, answers}
+use Rattle.log_lines.specs.Chunk.{turns, turned}
+use Rattle.log_lines.specs.declared.NextLine.the-variants.{Ends, Unfinished, Overlong}
+
+-- an empty log has no line, one newline is one empty line
+pub few : (linesOf [] ≡ []) × (linesOf (10 ∷ []) ≡ [] ∷ [])
+unfolding linesOf
+few = (refl, refl)
+
+-- the last line need not end, and nothing after a final newline is a line; a carriage return is a byte like others
+pub last : (linesOf (65 ∷ 10 ∷ 66 ∷ []) ≡ (65 ∷ []) ∷ (66 ∷ []) ∷ []) × (linesOf (65 ∷ 10 ∷ 66 ∷ 10 ∷ []) ≡ (65 ∷ []) ∷ (66 ∷ []) ∷ [])
+    × (linesOf (65 ∷ 13 ∷ 10 ∷ 10 ∷ []) ≡ (65 ∷ 13 ∷ []) ∷ [] ∷ [])
+unfolding linesOf
+last = (refl, refl, refl)
+
+-- of "A", newline, "B": the line from 0 on, the line from 2 on, and past the end
+pub next : (nextLine (65 ∷ 10 ∷ 66 ∷ []) 0 ≡ Ends 1 2) × (nextLine (65 ∷ 10 ∷ 66 ∷ []) 2 ≡ Unfinished) × (nextLine (65 ∷ 10 ∷ 66 ∷ []) 9 ≡ Unfinished)
+unfolding nextLine before
+next = (refl, refl, refl)
+
+-- 128 bytes may still become a line, 129 may not
+pub long : (nextLine (replicate 128 65) 0 ≡ Unfinished) × (nextLine (replicate 129 65) 0 ≡ Overlong) × (nextLine (replicate 129 65 ++ (10 ∷ [])) 0 ≡ Ends 129 130)
+unfolding nextLine before
+long = (refl, refl, refl)
+
+-- 129 bytes are carried on of a line that did not end, and all where lines wait
+pub carries : (carriedOf true 128 ≡ 128) × (carriedOf true 129 ≡ 129) × (carriedOf true 500 ≡ 129) × (carriedOf false 500 ≡ 500)
+unfolding carriedOf
+carries = (refl, refl, refl, refl)
+
+-- two bytes from place 1 on, and two from place 3 on, which there are not
+pub moves : (movedDown (1 ∷ 2 ∷ 3 ∷ 4 ∷ []) 1 2 ≡ 2 ∷ 3 ∷ 3 ∷ 4 ∷ []) × (movedDown (1 ∷ 2 ∷ 3 ∷ 4 ∷ []) 3 2 ≡ 1 ∷ 2 ∷ 3 ∷ 4 ∷ [])
+unfolding movedDown
+moves = (refl, refl)
+
+-- the lines counted, each answered by its number and a newline
+abbrev count : ℕ → List ℕ → ℕ
+count n l = suc n
+
+abbrev tell : ℕ → List ℕ → List ℕ
+tell n l = n ∷ 10 ∷ []
+
+pub told : output count tell 0 (65 ∷ 10 ∷ 10 ∷ 66 ∷ []) ≡ 0 ∷ 10 ∷ 1 ∷ 10 ∷ 2 ∷ 10 ∷ []
+unfolding output answers linesOf
+told = refl
+
+-- with room for three bytes one of the two whole lines is answered
+pub chunk : (turns count tell 2 3 (turned 0 [] 0) (whole (65 ∷ 10 ∷ 10 ∷ 66 ∷ [])) ≡ turned 2 (0 ∷ 10 ∷ []) 1)
+    × (turns count tell 2 4 (turned 0 [] 0) (whole (65 ∷ 10 ∷ 10 ∷ 66 ∷ [])) ≡ turned 3 (0 ∷ 10 ∷ 1 ∷ 10 ∷ []) 2)
+unfolding turns whole
+chunk = (refl, refl)

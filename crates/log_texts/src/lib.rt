@@ -1,0 +1,107 @@
+// Answers: the text of what a line is answered with, and of what is written before the lines.
+ghost use Prim.Native.Nat.{_+_, _≤_};
+ghost use lib.ListN.{length};
+ghost use Rattle.text_writing.specs.Placing.{Put};
+ghost use Rattle.log_texts.specs.Texts.{fieldText, decisionText, refusedText, pageText, textOf};
+ghost use Rattle.log_texts.specs.Writing.{frontText, backText};
+ghost use Rattle.log_texts.specs.Room.{room, roomed, Opened};
+use log_answers::Told;
+use pack_shown::Decision;
+use refusals::Verdict;
+
+// The bytes of the longest answer to a line: a number of 32 bits, four of 16, and the byte behind each.
+pub const ROOM: usize = 35;
+
+// ---- a line
+
+// A number, and the tab or the newline behind it.
+fn put_field(out: &mut [u8], at: usize, v: u32, end: u8) -> usize
+    requires { ⌜ at + length (fieldText v end) ≤ length (now out) ⌝ }
+    ensures { λ r. ⌜ Put (now (out .entry)) at (fieldText v end) r (now (out .exit)) ⌝ }
+{
+    let e = text_writing::put_decimal(out, at, v);
+    text_writing::put_byte(out, e, end)
+}
+
+fn put_front(out: &mut [u8], at: usize, tick: u32, raised: u16, fets: u16) -> usize
+    requires { ⌜ at + 23 ≤ length (now out) ⌝ }
+    ensures { λ r. ⌜ Put (now (out .entry)) at (frontText tick raised fets) r (now (out .exit)) ⌝ }
+    ensures { λ _. ⌜ length (frontText tick raised fets) ≤ 23 ⌝ }
+{
+    let e = put_field(out, at, tick, 9);
+    let f = put_field(out, e, raised as u32, 9);
+    put_field(out, f, fets as u32, 9)
+}
+
+fn put_back(out: &mut [u8], at: usize, balance: u16, mode: u16) -> usize
+    requires { ⌜ at + 12 ≤ length (now out) ⌝ }
+    ensures { λ r. ⌜ Put (now (out .entry)) at (backText balance mode) r (now (out .exit)) ⌝ }
+    ensures { λ _. ⌜ length (backText balance mode) ≤ 12 ⌝ }
+{
+    let e = put_field(out, at, balance as u32, 9);
+    put_field(out, e, mode as u32, 10)
+}
+
+fn put_decision(out: &mut [u8], at: usize, d: Decision) -> usize
+    requires { ⌜ at + 35 ≤ length (now out) ⌝ }
+    ensures { λ r. ⌜ Put (now (out .entry)) at (decisionText d) r (now (out .exit)) ⌝ }
+    ensures { λ _. ⌜ length (decisionText d) ≤ 35 ⌝ }
+{
+    let e = put_front(out, at, d.tick, d.raised, d.fets);
+    put_back(out, e, d.balance, d.mode)
+}
+
+fn put_refused(out: &mut [u8], at: usize, number: u8) -> usize
+    requires { ⌜ at + 35 ≤ length (now out) ⌝ }
+    ensures { λ r. ⌜ Put (now (out .entry)) at (refusedText number) r (now (out .exit)) ⌝ }
+    ensures { λ _. ⌜ length (refusedText number) ≤ 35 ⌝ }
+{
+    let e = text_writing::put_bytes(out, at, b"refused\t");
+    put_field(out, e, number as u32, 10)
+}
+
+// Puts the text of an answer at `at` and answers the place behind it; where the longest answer has no room nothing is written and the
+// answer is `at`.
+pub fn put_told(out: &mut [u8], at: usize, t: Told) -> usize
+    ensures { λ r. ⌜ Put (now (out .entry)) at (roomed (length (now (out .entry))) at (textOf t)) r (now (out .exit)) ⌝ }
+    ensures { λ _. ⌜ length (roomed (length (now (out .entry))) at (textOf t)) ≤ room ⌝ }
+{
+    if out.len() < ROOM {
+        return at;
+    }
+    if out.len() - ROOM < at {
+        return at;
+    }
+    match t {
+        Told::Decided(d) => put_decision(out, at, d),
+        Told::Refused(number) => put_refused(out, at, number),
+    }
+}
+
+// ---- what is written before the lines
+
+fn put_page(out: &mut [u8], number: u8, word: u8) -> usize
+    requires { ⌜ 35 ≤ length (now out) ⌝ }
+    ensures { λ r. ⌜ Put (now (out .entry)) 0 (pageText number word) r (now (out .exit)) ⌝ }
+{
+    let e = text_writing::put_bytes(out, 0, b"page\t");
+    let f = put_field(out, e, number as u32, 9);
+    put_field(out, f, word as u32, 10)
+}
+
+// Writes the header, or for a refused page its one line; where the longest answer has no room nothing is written.
+pub fn put_opening(out: &mut [u8], verdict: Verdict) -> usize
+    ensures { λ r. ⌜ Opened (now (out .entry)) verdict r (now (out .exit)) ⌝ }
+{
+    if out.len() < ROOM {
+        return 0;
+    }
+    match verdict {
+        Verdict::Accepted => text_writing::put_bytes(
+            out,
+            0,
+            b"tick\traised\tfets\tbalance\tmode\n",
+        ),
+        Verdict::Refused { number, word } => put_page(out, number, word),
+    }
+}

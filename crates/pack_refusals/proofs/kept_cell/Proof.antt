@@ -1,0 +1,16 @@
+-- `samples::kept_cell` meets its contract. Assumes nothing.
+use borrow.Author.Tests.{lt-ltb, le-ltb}
+use Rattle.pack_refusals.specs.Samples.{keptCell}
+use Rattle.pack_refusals.proofs.kept_cell.Statement.{statement}
+use Rattle.pack_refusals.proofs.kept_cell.Tie as tie
+
+returns : tie.Need-returns
+unfolding keptCell
+returns c = rw (lt-ltb _ _ (c .if1 .taken))
+
+returns-2 : tie.Need-returns-2
+unfolding keptCell
+returns-2 c = rw (le-ltb _ _ (c .if1 .left))
+
+pub kept-cell-spec : {M : Type 1} → statement M
+kept-cell-spec = tie.close (tie.spec returns returns-2)

@@ -1,0 +1,115 @@
+// Offered samples and switch commands: document 01's refusals 9, 10, 11 and 16, and what is kept of an accepted sample.
+ghost use mathlib.Core.Path.{_≡_};
+ghost use mathlib.Core.Bool.{_&&_};
+ghost use Rattle.sample.specs.Cells.{lookedAt};
+ghost use Rattle.pack_refusals.specs.Samples.{cellFits, cellsFit, temperatureFits, temperaturesVerdict, sampleVerdict, commandVerdict, keptCell, trimmed};
+use refusals::Verdict;
+use refusals::refused;
+use sample::Sample;
+use sample::looked_at;
+use units::DeciKelvin;
+use units::MilliVolts;
+
+// One cell more that is no more than 6000 mV.
+fn cell_too(others: bool, v: MilliVolts) -> bool
+    ensures { λ r. ⌜ r ≡ (others && cellFits v) ⌝ }
+{
+    if others {
+        return v.0 <= 6000;
+    }
+    false
+}
+
+fn cells_fit(cells: [MilliVolts; 10], count: u8) -> bool
+    ensures { λ r. ⌜ r ≡ cellsFit cells (lookedAt count) ⌝ }
+{
+    let n = looked_at(count);
+    let mut ok = true;
+    let mut i: usize = 0;
+    while i < n {
+        let v = cells[i];
+        ok = cell_too(ok, v);
+        i += 1;
+    }
+    ok
+}
+
+fn temperature_fits(t: DeciKelvin) -> bool
+    ensures { λ r. ⌜ r ≡ temperatureFits (t .0) ⌝ }
+{
+    if 2000 <= t.0 {
+        return t.0 <= 4500;
+    }
+    false
+}
+
+fn temperatures_verdict(t1: DeciKelvin, t2: DeciKelvin) -> Verdict
+    ensures { λ r. ⌜ r ≡ temperaturesVerdict (t1 .0) (t2 .0) ⌝ }
+{
+    if temperature_fits(t1) {
+        if temperature_fits(t2) {
+            return Verdict::Accepted;
+        }
+        return refused(11);
+    }
+    refused(11)
+}
+
+// What document 01 answers to a sample that is offered to a pack of n cells.
+pub fn sample_verdict(n: u8, s: Sample) -> Verdict
+    ensures { λ r. ⌜ r ≡ sampleVerdict n s ⌝ }
+{
+    if n == 0 {
+        return refused(9);
+    }
+    let count = s.count;
+    if count != n {
+        return refused(9);
+    }
+    let cells = s.cells;
+    if cells_fit(cells, count) {
+        return temperatures_verdict(s.t1, s.t2);
+    }
+    refused(10)
+}
+
+// What it answers to a switch command.
+pub fn command_verdict(n: u8, c: u16) -> Verdict
+    ensures { λ r. ⌜ r ≡ commandVerdict n c ⌝ }
+{
+    if n == 0 {
+        return refused(16);
+    }
+    if c <= 3 {
+        return Verdict::Accepted;
+    }
+    refused(16)
+}
+
+// ---- what is kept of an accepted sample
+
+fn kept_cell(count: u8, i: u8, v: MilliVolts) -> MilliVolts
+    ensures { λ r. ⌜ r ≡ keptCell count i v ⌝ }
+{
+    if i < count {
+        return v;
+    }
+    MilliVolts(0)
+}
+
+// The sample with 0 in the entries past its count.
+pub fn trim(s: Sample) -> Sample
+    ensures { λ r. ⌜ r ≡ trimmed s ⌝ }
+{
+    let mut cells = s.cells;
+    let mut i: u8 = 0;
+    while i < 10 {
+        let at = i as usize;
+        let v = cells[at];
+        cells[at] = kept_cell(s.count, i, v);
+        i += 1;
+    }
+    let mut t = s;
+    t.cells = cells;
+    t
+}

@@ -1,0 +1,156 @@
+-- The state of a pack: what document 01 says of it from the page and the history, and the step that the code takes.
+-- Assumes nothing.
+use mathlib.Core.Bool.{Bool, true, false, cond}
+use mathlib.Core.List.{List, [], _∷_}
+use mathlib.Core.Path.{_≡_}
+use Prim.Native.Nat.{ℕ, _+_, _-_, _%_}
+use lib.Dec.{ltb}
+use lib.ListN.{length, replicate}
+use Rattle.sample.specs.declared.Sample.{Sample}
+use Rattle.guard.specs.declared.rule.Protection.{Protection}
+use Rattle.sample.specs.Cells.{extremesOf}
+use Rattle.sample.specs.None.{noSample}
+use Rattle.sample.specs.declared.Extremes.{Extremes}
+use Rattle.guard.specs.Steps.{protectionsOf, stepAll, AllWithin}
+use Rattle.guard_raised.specs.Words.{someRaised, anyRaised}
+use Rattle.page_settings.specs.declared.Rules.{Rules}
+use Rattle.page_settings.specs.declared.Settings.{Settings}
+use Rattle.bleed_wants.specs.Wants.{isCharging}
+use Rattle.bleed_wants.specs.Steps.{wishes, wantingWord}
+use Rattle.bleed.specs.Resting.Steps.{nextCell, nextRuns, restingWord}
+use Rattle.bleed.specs.Walk.Steps.{chosenWord, CellOf}
+use Rattle.bleed.specs.Walk.History.{bleds, resting, startCell}
+use Rattle.bleed_wants.specs.Word.{wordTo}
+use Rattle.bleed.specs.Walk.Balance.{runsOf, bledWord}
+use Rattle.pack_state.specs.declared.Balance.{Balance}
+use Rattle.pack_state.specs.declared.Pack.{Pack}
+use Rattle.pack_state.specs.Past.{Past}
+
+-- ---- from the page and the history
+
+-- Which cells want bleeding at the latest sample s of a history: "protections first, then bleeding with the new protections".
+unfoldable pub wishAt : Settings → Sample → List Sample → ℕ → Bool
+wishAt page s h =
+    wishes (isCharging (page .rules .detection) (s .current)) (someRaised (page .limits) (s ∷ h)) (page .rules .floor .0)
+    (page .rules .difference .0) (extremesOf (s .cells) (s .count) .lowest .0) (s .cells)
+
+-- Which cells wanted at each sample of a history.
+unfoldable pub wishesOf : Settings → List Sample → List (ℕ → Bool)
+wishesOf page [] = []
+wishesOf page (s ∷ h) = wishAt page s h ∷ wishesOf page h
+
+-- Before the first sample, the one that stands for none.
+abbrev pub latestOf : List Sample → Sample
+latestOf [] = noSample
+latestOf (s ∷ h) = s
+
+abbrev pub anySample : List Sample → Bool
+anySample [] = false
+anySample (s ∷ h) = true
+
+module _ (page : Settings) where
+  -- n, K and R of the page.
+  abbrev n : ℕ
+  n = page .rules .n
+
+  abbrev K : ℕ
+  K = page .rules .k
+
+  abbrev R : ℕ
+  R = page .rules .r
+
+  -- The word of the cells that rested at the latest sample; none before the first.
+  unfoldable pub restedAfter : List Sample → ℕ
+  restedAfter [] = 0
+  restedAfter (s ∷ h) = wordTo n (resting R (bleds n K R (wishesOf page h)))
+
+  -- The word of the cells that were bled at the latest sample; none before the first.
+  unfoldable pub bledAfter : List Sample → ℕ
+  bledAfter h = bledWord n K R (wishesOf page h)
+
+  -- What bleeding keeps. The latest of i samples had i - 1 before it.
+  unfoldable pub balanceAfter : List Sample → Balance
+  balanceAfter h =
+      record {
+        begun = record { 0 = startCell n (length h - 1) };
+        rested = restedAfter h;
+        bled = bledAfter h;
+        start = record { 0 = startCell n (length h) };
+        runs = runsOf n K R (wishesOf page h);
+      }
+
+  -- The state of a pack with this page after this past.
+  unfoldable pub stateOf : Past → Pack
+  stateOf p =
+      record {
+        rules = page .rules;
+        protections = protectionsOf (page .limits) (p .history);
+        balance = balanceAfter (p .history);
+        latest = latestOf (p .history);
+        sampled = anySample (p .history);
+        command = p .standing;
+        tick = length (p .history) % 1000000;
+      }
+
+-- ---- the step that the code takes
+
+-- The tick goes on by one, modulo 1000000.
+unfoldable pub nextTick : ℕ → ℕ
+nextTick t = cond (ltb t 999999) (t + 1) 0
+
+-- At a load: start cell 1, and nothing bled yet.
+unfoldable pub freshBalance : Balance
+freshBalance =
+    record { begun = record { 0 = 1 }; rested = 0; bled = 0; start = record { 0 = 1 }; runs = replicate 10 0 }
+
+-- Bleeding at a sample of whose cells the word `want` has those that want.
+unfoldable pub nextBalance : Rules → ℕ → Balance → Balance
+nextBalance r want b =
+    record {
+      begun = b .start;
+      rested = restingWord (r .n) (r .r) (b .runs);
+      bled = chosenWord (r .n) (r .k) want (restingWord (r .n) (r .r) (b .runs)) (b .start .0);
+      start = record { 0 = nextCell (r .n) (b .start .0) };
+      runs = nextRuns (chosenWord (r .n) (r .k) want (restingWord (r .n) (r .r) (b .runs)) (b .start .0)) (b .runs);
+    }
+
+-- The word of the cells that want bleeding at a sample whose highest and lowest cell are e, by the protections after it.
+unfoldable pub wantWith : Extremes → Rules → Sample → List Protection → ℕ
+wantWith e r s ps =
+    wantingWord (r .n) (isCharging (r .detection) (s .current)) (anyRaised ps) (r .floor .0) (r .difference .0) (e .lowest .0) (s .cells)
+
+abbrev pub wantAt : Rules → Sample → List Protection → ℕ
+wantAt r s ps = wantWith (extremesOf (s .cells) (s .count)) r s ps
+
+-- What the step takes as given: every run is below its N or M, the start cell is a cell of the pack, and nobody rests where nobody was
+-- bled at the latest sample.
+pub record Ready (p : Pack) : Type 0 where
+  pub runs : AllWithin (p .protections)
+  pub start : CellOf (p .rules .n) (p .balance .start .0)
+  pub idle : p .balance .bled ≡ 0 → restingWord (p .rules .n) (p .rules .r) (p .balance .runs) ≡ 0
+
+-- The pack after an accepted sample, of which `s` is kept.
+unfoldable pub acceptedPack : Pack → Sample → Pack
+acceptedPack p s =
+    record {
+      rules = p .rules;
+      protections = stepAll s (p .protections);
+      balance = nextBalance (p .rules) (wantAt (p .rules) s (stepAll s (p .protections))) (p .balance);
+      latest = s;
+      sampled = true;
+      command = p .command;
+      tick = nextTick (p .tick);
+    }
+
+-- The pack at a load.
+unfoldable pub freshPack : Settings → Pack
+freshPack page =
+    record {
+      rules = page .rules;
+      protections = protectionsOf (page .limits) [];
+      balance = freshBalance;
+      latest = noSample;
+      sampled = false;
+      command = 0;
+      tick = 0;
+    }

@@ -1,0 +1,170 @@
+-- One step on from the state that a past stands for is the state of the longer past: the second demand, call by call.
+-- Assumes nothing.
+use mathlib.Core.Path.{_≡_, refl, sym, ap, ap₂, _∙_}
+use mathlib.Core.Bool.{Bool, true}
+use mathlib.Core.List.{List, [], _∷_}
+use Prim.Native.Nat.{ℕ, zero, suc, _-_, _%_, _≤_, _<_}
+use native.Mathlib.Omega.{arith}
+use native.Mathlib.Nat.{mod-eq-of-lt}
+use lib.Dec.{ltb}
+use lib.ListN.{length}
+use borrow.Author.Tests.{ltb-true, ltb-false}
+use Rattle.laws.specs.Tests.{by-test}
+use Rattle.laws.specs.Bits.{withBitIf}
+use Rattle.units.specs.declared.CellNo.{CellNo}
+use Rattle.sample.specs.declared.Sample.{Sample}
+use Rattle.guard.specs.declared.rule.Protection.{Protection}
+use Rattle.guard.specs.Steps.{AllGood, protectionsOf, protections-step, protections-within}
+use Rattle.guard_raised.specs.Words.{anyRaised-is}
+use Rattle.page_settings.specs.declared.Settings.{Settings}
+use Rattle.page_settings.specs.Good.{Good}
+use Rattle.bleed.specs.Walk.History.{bleds, resting, startCell}
+use Rattle.bleed_wants.specs.Word.{wordTo}
+use Rattle.bleed.specs.Resting.Steps.{nextRuns, rested, restingWord}
+use Rattle.bleed.specs.Walk.Steps.{chosenWord}
+use Rattle.bleed_wants.specs.StepLaws.{ten-is}
+use Rattle.bleed.specs.Resting.StepLaws.{none-rest}
+use Rattle.bleed.specs.Walk.Balance.{runsOf, bledWord, Shows, wanting-shows, start-cell, next-start-is, rested-is, choose-is, runs-are, runs-idle}
+use Rattle.page_settings.specs.declared.Rules.{Rules}
+use Rattle.pack_state.specs.declared.Balance.{Balance}
+use Rattle.pack_state.specs.declared.Pack.{Pack}
+use Rattle.pack_state.specs.Past.{Past, past}
+use Rattle.pack_state.specs.State.{wishAt, wishesOf, restedAfter, bledAfter, balanceAfter, stateOf, nextTick, nextBalance, wantWith, wantAt, Ready, acceptedPack, freshBalance, freshPack}
+
+-- ---- the tick
+
+pub tick-next : (count : ℕ) → nextTick (count % 1000000) ≡ suc count % 1000000
+unfolding nextTick
+tick-next count =
+    by-test (ltb (count % 1000000) 999999)
+    (λ t. let h = ltb-true (count % 1000000) 999999 t in rw t (omega arith))
+    (λ t. let h = ltb-false (count % 1000000) 999999 t in rw t (omega arith))
+
+-- ---- small laws
+
+-- The word of a test depends only on what the test says of its cells.
+word-same : (m : ℕ) (p q : ℕ → Bool) → ((k : ℕ) → 1 ≤ k → k ≤ m → p k ≡ q k) → wordTo m p ≡ wordTo m q
+unfolding wordTo
+word-same zero p q same = refl
+word-same (suc i) p q same =
+    ap₂ (λ (b : Bool) (w : ℕ). withBitIf b w i) (same (suc i) (omega arith) (omega arith)) (word-same i p q (λ k a b. same k a (omega arith)))
+
+-- There is a wish for each sample.
+pub wishes-length : (page : Settings) (h : List Sample) → length (wishesOf page h) ≡ length h
+unfolding wishesOf
+wishes-length page [] = refl
+wishes-length page (s ∷ h) = ap suc (wishes-length page h)
+
+abbrev balanced : CellNo → ℕ → ℕ → CellNo → List ℕ → Balance
+balanced a r b s l = record { begun = a; rested = r; bled = b; start = s; runs = l }
+
+abbrev packed : Rules → List Protection → Balance → Sample → Bool → ℕ → ℕ → Pack
+packed r ps b l any c t =
+    record { rules = r; protections = ps; balance = b; latest = l; sampled = any; command = c; tick = t }
+
+-- Two balances are equal part by part.
+balance-same : {a a′ s s′ : CellNo} {r r′ b b′ : ℕ} {l l′ : List ℕ} → a ≡ a′ → r ≡ r′ → b ≡ b′ → s ≡ s′ → l ≡ l′
+    → balanced a r b s l ≡ balanced a′ r′ b′ s′ l′
+balance-same ea er eb es el = cc
+
+-- A state's parts that a sample changes by a step.
+pack-same : {r : Rules} {ps ps′ : List Protection} {b b′ : Balance} {l : Sample} {c t t′ : ℕ} → ps ≡ ps′ → b ≡ b′ → t ≡ t′
+    → packed r ps b l true c t ≡ packed r ps′ b′ l true c t′
+pack-same ep eb et = cc
+
+-- ---- what an accepted page gives
+
+module _ (page : Settings) (good : Good page) where
+  some : 1 ≤ page .rules .n
+  some = let h = good .n in omega arith
+
+  ten : page .rules .n ≤ 10
+  ten = good .n .1
+
+  short : page .rules .r < 255
+  short = let h = good .r in omega arith
+
+  pub limits-good : AllGood (page .limits)
+  limits-good p h =
+      let g = good .each p h in
+      record { n-least = g .n .0; n-most = g .n .1; m-least = g .m .0; m-most = g .m .1; mask-most = g .mask; ordered = g .order }
+
+  -- ---- bleeding
+
+  -- The wanting word of the code shows who wants.
+  want-shows : (s : Sample) (h : List Sample)
+      → Shows (page .rules .n) (wantAt (page .rules) s (protectionsOf (page .limits) (s ∷ h))) (wishAt page s h)
+  unfolding wantWith wishAt
+  want-shows s h = rw (anyRaised-is (page .limits) (s ∷ h)) (wanting-shows (page .rules .n) _ _ _ _ _ (s .cells) ten)
+
+  -- Who rests by the counters is who rests by the history.
+  rested-word : (ws : List (ℕ → Bool))
+      → restingWord (page .rules .n) (page .rules .r) (runsOf (page .rules .n) (page .rules .k) (page .rules .r) ws)
+      ≡ wordTo (page .rules .n) (resting (page .rules .r) (bleds (page .rules .n) (page .rules .k) (page .rules .r) ws))
+  unfolding restingWord
+  rested-word ws =
+      rw (ten-is (page .rules .n) ten) (word-same (page .rules .n) _ _ (λ k a b. rested-is (page .rules .n) (page .rules .k) (page .rules .r) ws k a (let t = ten in omega arith)))
+
+  -- Nobody rests where nobody was bled at the latest sample: R is 1 at least.
+  nobody-rests : (ws : List (ℕ → Bool)) → bledWord (page .rules .n) (page .rules .k) (page .rules .r) ws ≡ 0
+      → restingWord (page .rules .n) (page .rules .r) (runsOf (page .rules .n) (page .rules .k) (page .rules .r) ws) ≡ 0
+  nobody-rests ws e =
+      ap (restingWord (page .rules .n) (page .rules .r)) (runs-idle (page .rules .n) (page .rules .k) (page .rules .r) some ten short ws e)
+      ∙ none-rest (page .rules .n) (page .rules .r) (let h = good .r in omega arith)
+
+  -- One step of bleeding.
+  balance-next : (s : Sample) (h : List Sample) (want : ℕ) → Shows (page .rules .n) want (wishAt page s h)
+      → nextBalance (page .rules) want (balanceAfter page h) ≡ balanceAfter page (s ∷ h)
+  unfolding nextBalance balanceAfter restedAfter bledAfter wishesOf
+  balance-next s h want shows =
+      let ws = wishesOf page h in
+      let same : length h ≡ length ws = sym (wishes-length page h) in
+      let begun : suc (length h) - 1 ≡ length h = omega arith in
+      let who : restingWord (page .rules .n) (page .rules .r) (runsOf (page .rules .n) (page .rules .k) (page .rules .r) ws) ≡ wordTo (page .rules .n) (resting (page .rules .r) (bleds (page .rules .n) (page .rules .k) (page .rules .r) ws)) =
+      rested-word ws in
+      let chose = choose-is (page .rules .n) (page .rules .k) (page .rules .r) some ten (wishAt page s h) ws want shows in
+      let runs = runs-are (page .rules .n) (page .rules .k) (page .rules .r) some ten (wishAt page s h) ws short in
+      let next = next-start-is (page .rules .n) (length h) some in
+      balance-same
+      (ap (λ (x : ℕ). record { 0 = startCell (page .rules .n) x }) (sym begun))
+      who
+      (ap (chosenWord (page .rules .n) (page .rules .k) want (restingWord (page .rules .n) (page .rules .r) (runsOf (page .rules .n) (page .rules .k) (page .rules .r) ws))) (ap (startCell (page .rules .n)) same) ∙ chose)
+      (ap (λ (x : ℕ). record { 0 = x }) next)
+      (ap (λ (x : ℕ). nextRuns x (runsOf (page .rules .n) (page .rules .k) (page .rules .r) ws)) (ap (chosenWord (page .rules .n) (page .rules .k) want (restingWord (page .rules .n) (page .rules .r) (runsOf (page .rules .n) (page .rules .k) (page .rules .r) ws))) (ap (startCell (page .rules .n)) same) ∙ chose) ∙ runs)
+
+  -- ---- the whole state
+
+  -- THE STEP: an accepted sample leads from the state of a past to the state of the past with that sample.
+  pub state-next : (p : Past) (s : Sample)
+      → acceptedPack (stateOf page p) s ≡ stateOf page (past (s ∷ p .history) (p .standing))
+  unfolding acceptedPack stateOf
+  state-next p s =
+      let h = p .history in
+      let guarded = protections-step (page .limits) limits-good s h in
+      pack-same guarded
+      (ap (λ (ps : List Protection). nextBalance (page .rules) (wantAt (page .rules) s ps) (balanceAfter page h)) guarded
+      ∙ balance-next s h (wantAt (page .rules) s (protectionsOf (page .limits) (s ∷ h))) (want-shows s h))
+      (tick-next (length h))
+
+  -- So the step may be taken after any past.
+  pub state-ready : (p : Past) → Ready (stateOf page p)
+  unfolding stateOf balanceAfter bledAfter
+  state-ready p =
+      record {
+        runs = protections-within (page .limits) limits-good (p .history);
+        start = start-cell (page .rules .n) (length (p .history)) some ten;
+        idle = λ e. nobody-rests (wishesOf page (p .history)) e;
+      }
+
+-- ---- at the load
+
+zero-mod : (n : ℕ) → 0 % n ≡ 0
+zero-mod zero = refl
+zero-mod (suc n) = mod-eq-of-lt (omega arith)
+
+-- A fresh pack is the state of no past, for a pack without a page too.
+pub state-fresh : (page : Settings) → freshPack page ≡ stateOf page (past [] 0)
+unfolding freshPack stateOf freshBalance balanceAfter restedAfter bledAfter wishesOf runsOf bledWord
+state-fresh page =
+    let none : 0 - 1 ≡ 0 = omega arith in
+    rw (none, zero-mod (page .rules .n))

@@ -1,0 +1,127 @@
+// The state of a pack: what it holds, and one accepted sample on.
+ghost use mathlib.Core.Path.{_≡_};
+ghost use Rattle.bleed.specs.Resting.Steps.{restingWord};
+ghost use Rattle.bleed.specs.Walk.Steps.{CellOf};
+ghost use Rattle.pack_state.specs.State.{nextTick, wantWith, nextBalance, Ready, acceptedPack};
+use bleed::chooser::choose;
+use bleed::resting::next_runs;
+use bleed::resting::next_start;
+use bleed::resting::resting;
+use bleed_wants::is_charging;
+use bleed_wants::wanting;
+use guard::all::step_all;
+use guard::rule::Protection;
+use guard_raised::any_raised;
+use page_settings::Rules;
+use protections::PROTECTIONS;
+use sample::Extremes;
+use sample::Sample;
+use sample::extremes_of;
+use units::CellNo;
+
+// What bleeding keeps: of the latest accepted sample its start cell, who rested and who was bled; for the next one the start
+// cell, and at how many samples in a row up to now each cell was bled. Bit k - 1 of a word stands for cell k.
+pub struct Balance {
+    pub begun: CellNo,
+    pub rested: u16,
+    pub bled: u16,
+    pub start: CellNo,
+    pub runs: [u8; 10],
+}
+
+// The state of a pack: what the page says (its limits stand in the protections), and what was kept since. It does not grow with the
+// history. Without a page n is 0, and every sample and command is refused.
+pub struct Pack {
+    pub rules: Rules,
+    pub protections: [Protection; PROTECTIONS],
+    pub balance: Balance,
+    pub latest: Sample,
+    pub sampled: bool,
+    pub command: u8,
+    pub tick: u32,
+}
+
+// ---- an accepted sample
+
+fn next_tick(t: u32) -> u32
+    ensures { λ r. ⌜ r ≡ nextTick t ⌝ }
+{
+    if t < 999999 {
+        return t + 1;
+    }
+    0
+}
+
+// The cells that want bleeding, by the protections after the sample.
+fn want_at(r: Rules, s: Sample, e: Extremes, ps: [Protection; PROTECTIONS]) -> u16
+    ensures { λ w. ⌜ w ≡ wantWith e r s ps ⌝ }
+{
+    let charging = is_charging(r.detection, s.current);
+    let raised = any_raised(ps);
+    let cells = s.cells;
+    wanting(
+        r.n,
+        charging,
+        raised,
+        r.floor,
+        r.difference,
+        e.lowest,
+        cells,
+    )
+}
+
+// Who rests at a sample: nobody, if nobody was bled at the one before it.
+fn resting_now(r: Rules, bled: u16, runs: [u8; 10]) -> u16
+    requires { ⌜ (bled ≡ 0 → restingWord (r .n) (r .r) runs ≡ 0) ⌝ }
+    ensures { λ w. ⌜ w ≡ restingWord (r .n) (r .r) runs ⌝ }
+{
+    if bled == 0 {
+        return 0;
+    }
+    resting(r.n, r.r, runs)
+}
+
+// Bleeding at one sample.
+fn next_balance(r: Rules, want: u16, b: Balance) -> Balance
+    requires { ⌜ CellOf (r .n) (b .start .0) ⌝ }
+    requires { ⌜ (b .bled ≡ 0 → restingWord (r .n) (r .r) (b .runs) ≡ 0) ⌝ }
+    ensures { λ q. ⌜ q ≡ nextBalance r want b ⌝ }
+{
+    let runs = b.runs;
+    let start = b.start;
+    let rested = resting_now(r, b.bled, runs);
+    let bled = choose(r.n, r.k, want, rested, start);
+    let next = next_runs(bled, runs);
+    let after = next_start(r.n, start);
+    Balance {
+        begun: start,
+        rested: rested,
+        bled: bled,
+        start: after,
+        runs: next,
+    }
+}
+
+// The pack after an accepted sample: protections first, then bleeding with the new protections.
+pub fn accept(p: Pack, s: Sample) -> Pack
+    requires { ⌜ Ready p ⌝ }
+    ensures { λ r. ⌜ r ≡ acceptedPack p s ⌝ }
+{
+    let cells = s.cells;
+    let e = extremes_of(cells, s.count);
+    let old = p.protections;
+    let protections = step_all(old, s, e);
+    let rules = p.rules;
+    let want = want_at(rules, s, e, protections);
+    let kept = p.balance;
+    let balance = next_balance(rules, want, kept);
+    Pack {
+        rules: rules,
+        protections: protections,
+        balance: balance,
+        latest: s,
+        sampled: true,
+        command: p.command,
+        tick: next_tick(p.tick),
+    }
+}

@@ -1,0 +1,80 @@
+-- What the worked page says, and document 01's degrees, computed from the definitions.
+-- Assumes nothing.
+use mathlib.Core.Path.{_≡_, refl}
+use mathlib.Core.List.{List, [], _∷_}
+use Prim.Native.Nat.{ℕ}
+use lib.IntN.{ℤ, pos, negsuc}
+use Rattle.units.specs.Signed.{signedOf}
+use Rattle.crc.specs.CheckByte.{timesX, timesXs, withByte, remainder, checkByte}
+use Rattle.protections.specs.Table.{rowAt, table}
+use Rattle.protections.specs.declared.Limits.{Limits}
+use Rattle.protections.specs.declared.Quantity.the-variants.{HighestCell, LowestCell, Current, Temperature1, Temperature2}
+use Rattle.page_words.specs.Ranges.{wordAt, within, degreesFit, levelFits, levelOf}
+use Rattle.page_judge.specs.Page.{refusals, judged}
+use Rattle.page_judge.specs.Worked.{workedPage, minus}
+use Rattle.refusals.specs.declared.Verdict.the-variants.{Accepted, Refused}
+use Rattle.page_settings.specs.declared.Rules.{Rules}
+use Rattle.page_settings.specs.declared.Settings.{Settings}
+use Rattle.page_settings.specs.Settings.{inDegrees, sampleLevel, limitsAt, limitsOf, rulesOf, settingsOf, noSettings, loadedOf}
+
+-- ---- levels
+
+abbrev levels : List ℤ
+levels =
+    sampleLevel Temperature1 25
+    ∷ sampleLevel Temperature2 (minus 40)
+    ∷ sampleLevel Temperature1 120
+    ∷ sampleLevel HighestCell 4250
+    ∷ sampleLevel LowestCell 2600
+    ∷ sampleLevel Current (minus 32768)
+    ∷ sampleLevel Current (minus 1)
+    ∷ []
+
+-- 25 °C is 2980, -40 °C is 2330, 120 °C is 3930; cells are mV as they stand, currents signed.
+levels-are : levels ≡ pos 2980 ∷ pos 2330 ∷ pos 3930 ∷ pos 4250 ∷ pos 2600 ∷ negsuc 32767 ∷ negsuc 0 ∷ []
+unfolding sampleLevel inDegrees levelOf signedOf
+levels-are = refl
+
+-- ---- the worked page
+
+abbrev pub limits : ℤ → ℤ → ℕ → Limits
+limits trip release mask = record { trip = trip; release = release; n = 2; m = 2; mask = mask }
+
+abbrev pub workedRules : Rules
+workedRules =
+    record {
+      n = 2;
+      k = 1;
+      r = 4;
+      floor = record { 0 = 3900 };
+      difference = record { 0 = 10 };
+      detection = pos 100;
+      voltage = record { 0 = 4200 };
+      current = pos 1000;
+    }
+
+abbrev pub worked : Settings
+worked =
+    record {
+      rules = workedRules;
+      limits =
+          limits (pos 4250) (pos 4150) 1
+          ∷ limits (pos 2500) (pos 2600) 2
+          ∷ limits (pos 3000) (pos 2500) 1
+          ∷ limits (negsuc 4999) (negsuc 3999) 2
+          ∷ limits (negsuc 19999) (negsuc 99) 3
+          ∷ limits (pos 3180) (pos 3130) 1
+          ∷ limits (pos 3330) (pos 3280) 2
+          ∷ limits (pos 3530) (pos 3430) 3
+          ∷ [];
+    }
+
+pub worked-loaded : loadedOf workedPage ≡ record { verdict = Accepted; settings = worked }
+unfolding loadedOf settingsOf rulesOf limitsOf limitsAt sampleLevel inDegrees levelOf signedOf judged refusals wordAt within degreesFit
+    levelFits rowAt table checkByte remainder withByte timesXs timesX
+worked-loaded = refl
+
+-- A refused page says nothing.
+none-loaded : loadedOf [] ≡ record { verdict = Refused 1 0; settings = noSettings }
+unfolding loadedOf settingsOf rulesOf judged refusals wordAt within degreesFit levelFits levelOf signedOf rowAt table checkByte remainder
+none-loaded = refl

@@ -1,0 +1,93 @@
+-- What an accepted settings page says, in the units of the samples.
+-- Assumes nothing.
+use mathlib.Core.Bool.{Bool, true, false, cond}
+use mathlib.Core.List.{List, map}
+use Prim.Native.Nat.{ℕ, _+_}
+use lib.ListN.{replicate}
+use lib.IntN.{ℤ, pos, _+ℤ_, _*ℤ_}
+use Rattle.units.specs.Signed.{signedOf}
+use Rattle.protections.specs.Table.{rowAt, protections}
+use Rattle.protections.specs.declared.Limits.{Limits}
+use Rattle.protections.specs.declared.Quantity.{Quantity}
+use Rattle.protections.specs.declared.Quantity.the-variants.{HighestCell, LowestCell, Current, Temperature1, Temperature2}
+use Rattle.page_words.specs.Ranges.{wordAt, levelOf}
+use Rattle.page_judge.specs.Page.{tripWord, countFrom, judged}
+use Rattle.refusals.specs.declared.Verdict.{Verdict}
+use Rattle.refusals.specs.declared.Verdict.the-variants.{Accepted, Refused}
+use Rattle.page_settings.specs.declared.Rules.{Rules}
+use Rattle.page_settings.specs.declared.Settings.{Settings}
+use Rattle.page_settings.specs.declared.Loaded.{Loaded}
+
+-- "Page temperatures are in °C."
+unfoldable pub inDegrees : Quantity → Bool
+inDegrees HighestCell = false
+inDegrees LowestCell = false
+inDegrees Current = false
+inDegrees Temperature1 = true
+inDegrees Temperature2 = true
+
+-- "C degrees stand for 10 × C + 2730 tenths": the trip or release level that the word x stands for, in the sample's unit.
+unfoldable pub sampleLevel : Quantity → ℕ → ℤ
+sampleLevel q x = cond (inDegrees q) (pos 10 *ℤ levelOf q x +ℤ pos 2730) (levelOf q x)
+
+-- What the page b says of protection p: "trip, release, N, M, switch mask".
+unfoldable pub limitsAt : List ℕ → ℕ → Limits
+limitsAt b p =
+    let at = tripWord p in
+    record {
+      trip = sampleLevel (rowAt p .quantity) (wordAt b at);
+      release = sampleLevel (rowAt p .quantity) (wordAt b (at + 1));
+      n = wordAt b (at + 2);
+      m = wordAt b (at + 3);
+      mask = wordAt b (at + 4);
+    }
+
+-- Of all eight, in the order of their numbers.
+unfoldable pub limitsOf : List ℕ → List Limits
+limitsOf b = map (limitsAt b) (countFrom 0 protections)
+
+-- What the page b says in its words 1 to 8.
+unfoldable pub rulesOf : List ℕ → Rules
+rulesOf b =
+    record {
+      n = wordAt b 1;
+      k = wordAt b 2;
+      r = wordAt b 3;
+      floor = record { 0 = wordAt b 4 };
+      difference = record { 0 = wordAt b 5 };
+      detection = signedOf (wordAt b 6);
+      voltage = record { 0 = wordAt b 7 };
+      current = signedOf (wordAt b 8);
+    }
+
+-- What the page b says: its words 1 to 8, and its protections.
+unfoldable pub settingsOf : List ℕ → Settings
+settingsOf b = record { rules = rulesOf b; limits = limitsOf b }
+
+-- What stands for the settings of a page that is refused.
+abbrev pub noLimits : Limits
+noLimits = record { trip = pos 0; release = pos 0; n = 0; m = 0; mask = 0 }
+
+abbrev pub noRules : Rules
+noRules =
+    record {
+      n = 0;
+      k = 0;
+      r = 0;
+      floor = record { 0 = 0 };
+      difference = record { 0 = 0 };
+      detection = pos 0;
+      voltage = record { 0 = 0 };
+      current = pos 0;
+    }
+
+unfoldable pub noSettings : Settings
+noSettings = record { rules = noRules; limits = replicate protections noLimits }
+
+abbrev pub loadedWith : Verdict → List ℕ → Loaded
+loadedWith Accepted b = record { verdict = Accepted; settings = settingsOf b }
+loadedWith (Refused k w) b = record { verdict = Refused k w; settings = noSettings }
+
+-- What a load of the bytes b gives.
+unfoldable pub loadedOf : List ℕ → Loaded
+loadedOf b = loadedWith (judged b) b

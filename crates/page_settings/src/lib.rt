@@ -1,0 +1,203 @@
+// What an accepted settings page says, in the units of the samples.
+ghost use mathlib.Core.Path.{_≡_};
+ghost use Prim.Native.Nat.{_≤_, _<_};
+ghost use Rattle.page_words.specs.Ranges.{wordAt};
+ghost use Rattle.page_judge.specs.Page.{judged};
+ghost use Rattle.refusals.specs.declared.Verdict.the-variants.{Accepted};
+ghost use Rattle.page_settings.specs.Settings.{inDegrees, sampleLevel, limitsAt, noLimits, limitsOf, rulesOf, settingsOf, noSettings, loadedOf};
+use protections::Limits;
+use protections::Quantity;
+use protections::row_of;
+use refusals::Verdict;
+use units::MilliVolts;
+use units::ProtectionNo;
+use units::signed_of;
+
+// The page's words 1 to 8: cells n, most cells bled at once K, run limit R, balance floor and difference, charge detection current,
+// charging voltage per cell and charging current.
+pub struct Rules {
+    pub n: u8,
+    pub k: u8,
+    pub r: u8,
+    pub floor: MilliVolts,
+    pub difference: MilliVolts,
+    pub detection: i16,
+    pub voltage: MilliVolts,
+    pub current: i16,
+}
+
+// The settings: words 1 to 8, and the limits of the eight protections.
+pub struct Settings {
+    pub rules: Rules,
+    pub limits: [Limits; 8],
+}
+
+// A page's verdict, and what it says if it is accepted.
+pub struct Loaded {
+    pub verdict: Verdict,
+    pub settings: Settings,
+}
+
+// Whether the page gives the levels of this quantity in degrees.
+fn in_degrees(quantity: Quantity) -> bool
+    ensures { λ r. ⌜ r ≡ inDegrees quantity ⌝ }
+{
+    match quantity {
+        Quantity::HighestCell => false,
+        Quantity::LowestCell => false,
+        Quantity::Current => false,
+        Quantity::Temperature1 => true,
+        Quantity::Temperature2 => true,
+    }
+}
+
+// The trip or release level that a word stands for, in the sample's unit.
+fn sample_level(quantity: Quantity, x: u16) -> i32
+    ensures { λ r. ⌜ r ≡ sampleLevel quantity x ⌝ }
+{
+    let z = page_words::level(quantity, x);
+    if in_degrees(quantity) {
+        return 10 * z + 2730;
+    }
+    z
+}
+
+// A word that fits a byte.
+fn small(page: &[u8], i: u8) -> u8
+    requires { ⌜ wordAt (now page) i ≤ 255 ⌝ }
+    ensures { λ r. ⌜ r ≡ wordAt (now (page .entry)) i ⌝ }
+{
+    page_words::word(page, i) as u8
+}
+
+// What an accepted page says of protection p.
+fn limits_at(page: &[u8], p: u8) -> Limits
+    requires { ⌜ (judged (now page) ≡ Accepted) × (p < 8) ⌝ }
+    ensures { λ r. ⌜ r ≡ limitsAt (now (page .entry)) p ⌝ }
+{
+    let row = row_of(ProtectionNo(p));
+    let quantity = row.quantity;
+    let at = 16 + 5 * p;
+    let trip = sample_level(quantity, page_words::word(page, at));
+    let release = sample_level(quantity, page_words::word(page, at + 1));
+    let n = small(page, at + 2);
+    let m = small(page, at + 3);
+    let mask = small(page, at + 4);
+    Limits {
+        trip: trip,
+        release: release,
+        n: n,
+        m: m,
+        mask: mask,
+    }
+}
+
+fn no_limits() -> Limits
+    ensures { λ r. ⌜ r ≡ noLimits ⌝ }
+{
+    Limits {
+        trip: 0,
+        release: 0,
+        n: 0,
+        m: 0,
+        mask: 0,
+    }
+}
+
+// What an accepted page says of each of the eight protections.
+fn limits_of(page: &[u8]) -> [Limits; 8]
+    requires { ⌜ judged (now page) ≡ Accepted ⌝ }
+    ensures { λ r. ⌜ r ≡ limitsOf (now (page .entry)) ⌝ }
+{
+    let none = no_limits();
+    let mut all = [none; 8];
+    let mut p: u8 = 0;
+    while p < 8 {
+        all[p as usize] = limits_at(page, p);
+        p += 1;
+    }
+    all
+}
+
+// What an accepted page says in its words 1 to 8.
+fn rules_of(page: &[u8]) -> Rules
+    requires { ⌜ judged (now page) ≡ Accepted ⌝ }
+    ensures { λ r. ⌜ r ≡ rulesOf (now (page .entry)) ⌝ }
+{
+    let n = small(page, 1);
+    let k = small(page, 2);
+    let r = small(page, 3);
+    let floor = MilliVolts(page_words::word(page, 4));
+    let difference = MilliVolts(page_words::word(page, 5));
+    let detection = signed_of(page_words::word(page, 6));
+    let voltage = MilliVolts(page_words::word(page, 7));
+    let current = signed_of(page_words::word(page, 8));
+    Rules {
+        n: n,
+        k: k,
+        r: r,
+        floor: floor,
+        difference: difference,
+        detection: detection,
+        voltage: voltage,
+        current: current,
+    }
+}
+
+// What an accepted page says.
+fn settings_of(page: &[u8]) -> Settings
+    requires { ⌜ judged (now page) ≡ Accepted ⌝ }
+    ensures { λ r. ⌜ r ≡ settingsOf (now (page .entry)) ⌝ }
+{
+    let rules = rules_of(page);
+    let limits = limits_of(page);
+    Settings {
+        rules: rules,
+        limits: limits,
+    }
+}
+
+// The settings that go with a refused page: 0 throughout.
+fn no_settings() -> Settings
+    ensures { λ r. ⌜ r ≡ noSettings ⌝ }
+{
+    let none = no_limits();
+    let limits = [none; 8];
+    let rules = Rules {
+        n: 0,
+        k: 0,
+        r: 0,
+        floor: MilliVolts(0),
+        difference: MilliVolts(0),
+        detection: 0,
+        voltage: MilliVolts(0),
+        current: 0,
+    };
+    Settings {
+        rules: rules,
+        limits: limits,
+    }
+}
+
+// Judges a page of any length, and reads its settings if it is accepted.
+pub fn load(page: &[u8]) -> Loaded
+    ensures { λ r. ⌜ r ≡ loadedOf (now (page .entry)) ⌝ }
+{
+    let verdict = page_judge::judge(page);
+    match verdict {
+        Verdict::Accepted => {
+            let settings = settings_of(page);
+            Loaded {
+                verdict: verdict,
+                settings: settings,
+            }
+        }
+        Verdict::Refused { .. } => {
+            let settings = no_settings();
+            Loaded {
+                verdict: verdict,
+                settings: settings,
+            }
+        }
+    }
+}

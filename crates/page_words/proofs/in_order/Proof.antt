@@ -1,0 +1,20 @@
+-- `ranges::in_order` meets its contract. Assumes nothing.
+use mir.Facts.{toZ-ofZ}
+use borrow.Author.Needs.{needs}
+use Rattle.page_words.proofs.in_order.Statement.{statement}
+use Rattle.page_words.proofs.in_order.Tie as tie
+
+enum-told : tie.Need-enum-told
+enum-told c = search needs
+
+enum-told-2 : tie.Need-enum-told-2
+enum-told-2 c = search needs
+
+returns : tie.Need-returns
+returns c = rw (toZ-ofZ (c .before .before .fits .trip), toZ-ofZ (c .before .before .fits .release), c .enum-told .given .1)
+
+returns-2 : tie.Need-returns-2
+returns-2 c = rw (toZ-ofZ (c .before .before .fits .trip), toZ-ofZ (c .before .before .fits .release), c .enum-told2 .given .1)
+
+pub in-order-spec : {M : Type 1} → statement M
+in-order-spec = tie.close (tie.spec enum-told enum-told-2 returns returns-2)

@@ -1,0 +1,69 @@
+-- `quantities::extremes_of` meets its contract: after i cells, e are the extremes of the first i. Assumes nothing.
+use mathlib.Core.Path.{_≡_, sym, ap, _∙_}
+use Prim.Native.Nat.{_-_, _≤_}
+use Rattle.sample.specs.Cells.{extremesOf, extremesTo, looked-most, extremes-none, extremes-first, extremes-next}
+use borrow.Author.Needs.{needs}
+use native.Mathlib.Omega.{arith}
+use Rattle.sample.proofs.extremes_of.Statement.{statement}
+use Rattle.sample.proofs.extremes_of.Tie as tie
+
+abbrev Inv-loop : tie.InvT-loop
+Inv-loop count cells n e₀ i₀ e i = (1 ≤ i) × (i ≤ n) × (n ≤ 10) × (e ≡ extremesTo cells i)
+
+abbrev μ-loop : tie.MeasureT-loop
+μ-loop count cells n e₀ i₀ e i = n - i
+
+looked-at-requires : tie.Need-looked-at-requires Inv-loop μ-loop
+looked-at-requires c κs = search needs
+
+returns : tie.Need-returns Inv-loop μ-loop
+returns c = extremes-none _ _ (sym (c .before .looked-at .ensures) ∙ c .if1 .taken)
+
+array-copy-out-first : tie.Need-array-copy-out-first Inv-loop μ-loop
+array-copy-out-first c = search needs
+
+loop-holds : tie.Need-loop-holds Inv-loop μ-loop
+loop-holds c = (omega arith, omega arith, rw (c .before .before .looked-at .ensures) (looked-most (c .before .before .before .args .count)), extremes-first _)
+
+mul-cell : tie.Need-mul-cell Inv-loop μ-loop
+mul-cell c = search needs
+
+array-copy-out-cell : tie.Need-array-copy-out-cell Inv-loop μ-loop
+array-copy-out-cell c = search needs
+
+widened-requires : tie.Need-widened-requires Inv-loop μ-loop
+widened-requires c κs = search needs
+
+add-i : tie.Need-add-i Inv-loop μ-loop
+add-i c = search needs
+
+loop-less : tie.Need-loop-less Inv-loop μ-loop
+loop-less c = omega arith
+
+loop-again : tie.Need-loop-again Inv-loop μ-loop
+loop-again c = (omega arith, omega arith, omega arith, c .widened .ensures ∙ extremes-next _ _ _ (omega arith) (c .before .before .before .loop .inv .3))
+
+returns-2 : tie.Need-returns-2 Inv-loop μ-loop
+unfolding extremesOf
+returns-2 c =
+    let looked = c .before .before .before .before .looked-at in
+    let k : c .before .loop .i ≡ looked .result = omega arith in
+    c .before .loop .inv .3 ∙ ap (extremesTo (c .before .before .before .before .before .args .t1)) (k ∙ looked .ensures)
+
+pub extremes-of-spec : {M : Type 1} → statement M
+extremes-of-spec =
+    tie.close
+    (tie.spec
+    Inv-loop
+    μ-loop
+    looked-at-requires
+    returns
+    array-copy-out-first
+    loop-holds
+    mul-cell
+    array-copy-out-cell
+    widened-requires
+    add-i
+    loop-less
+    loop-again
+    returns-2)

@@ -1,0 +1,120 @@
+// The quantities of a sample, which the protections look at: its highest and lowest cell, its current, its temperatures.
+ghost use mathlib.Core.Path.{_≡_};
+ghost use Rattle.sample.specs.Cells.{larger, smaller, lookedAt, widen, extremesOf};
+ghost use Rattle.sample.specs.Measure.{measureWith};
+ghost use Rattle.sample.specs.None.{noSample};
+use protections::Quantity;
+use units::DeciKelvin;
+use units::MilliVolts;
+
+// A sample: the first `count` entries are cells 1 to `count`, and the entries past them are no cells.
+pub struct Sample {
+    pub count: u8,
+    pub cells: [MilliVolts; 10],
+    pub current: i16,
+    pub t1: DeciKelvin,
+    pub t2: DeciKelvin,
+}
+
+// The highest and the lowest cell of a sample.
+pub struct Extremes {
+    pub highest: MilliVolts,
+    pub lowest: MilliVolts,
+}
+
+// What stands for a sample where there is none: no cell, and 0 throughout.
+pub fn no_sample() -> Sample
+    ensures { λ r. ⌜ r ≡ noSample ⌝ }
+{
+    Sample {
+        count: 0,
+        cells: [MilliVolts(0); 10],
+        current: 0,
+        t1: DeciKelvin(0),
+        t2: DeciKelvin(0),
+    }
+}
+
+// ---- highest and lowest cell
+
+// The larger of two; of two that are equal, the first.
+fn larger_of(a: MilliVolts, b: MilliVolts) -> MilliVolts
+    ensures { λ r. ⌜ r ≡ larger a b ⌝ }
+{
+    if a.0 < b.0 {
+        return b;
+    }
+    a
+}
+
+// The smaller of two; of two that are equal, the first.
+fn smaller_of(a: MilliVolts, b: MilliVolts) -> MilliVolts
+    ensures { λ r. ⌜ r ≡ smaller a b ⌝ }
+{
+    if b.0 < a.0 {
+        return b;
+    }
+    a
+}
+
+// The extremes with one cell more.
+fn widened(e: Extremes, cell: MilliVolts) -> Extremes
+    ensures { λ r. ⌜ r ≡ widen e cell ⌝ }
+{
+    let highest = larger_of(e.highest, cell);
+    let lowest = smaller_of(e.lowest, cell);
+    Extremes {
+        highest: highest,
+        lowest: lowest,
+    }
+}
+
+// How many entries are cells: the array has ten.
+pub fn looked_at(count: u8) -> usize
+    ensures { λ r. ⌜ r ≡ lookedAt count ⌝ }
+{
+    if count < 10 {
+        return count as usize;
+    }
+    10
+}
+
+// The highest and the lowest of the first `count` cells; of none, 0 and 0.
+pub fn extremes_of(cells: [MilliVolts; 10], count: u8) -> Extremes
+    ensures { λ r. ⌜ r ≡ extremesOf cells count ⌝ }
+{
+    let n = looked_at(count);
+    if n == 0 {
+        return Extremes {
+            highest: MilliVolts(0),
+            lowest: MilliVolts(0),
+        };
+    }
+    let first = cells[0];
+    let mut e = Extremes {
+        highest: first,
+        lowest: first,
+    };
+    let mut i: usize = 1;
+    while i < n {
+        let cell = cells[i];
+        e = widened(e, cell);
+        i += 1;
+    }
+    e
+}
+
+// ---- what a protection looks at
+
+// The quantity of a sample whose extremes are e, as one signed number: the one place where kinds of number meet.
+pub fn measured(q: Quantity, s: Sample, e: Extremes) -> i32
+    ensures { λ r. ⌜ r ≡ measureWith e q s ⌝ }
+{
+    match q {
+        Quantity::HighestCell => e.highest.0 as i32,
+        Quantity::LowestCell => e.lowest.0 as i32,
+        Quantity::Current => s.current as i32,
+        Quantity::Temperature1 => s.t1.0 as i32,
+        Quantity::Temperature2 => s.t2.0 as i32,
+    }
+}

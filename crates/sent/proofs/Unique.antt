@@ -1,9 +1,0 @@
--- Two results that one contract allows are equal, for every public function. The contract is the one that Rattle reads out of the source (`Reads.Post`).
--- Assumes nothing.
-use mathlib.Core.Path.{sym, _∙_}
-use Rattle.laws.specs.Unique.{Unique}
-use Rattle.sent.proofs.sent_word.Reads as sent-word
-use Rattle.sent.proofs.sent_word.Kinds as sent-word-kinds
-
-sent-word-one : Unique 0 sent-word-kinds.ps sent-word-kinds.r sent-word.Post
-sent-word-one κs a x y s t p q = p ∙ sym q

@@ -1,0 +1,8 @@
+-- Two results that one contract allows are equal, and so is the lent memory. The contracts are those that Rattle reads out of the source.
+use mathlib.Core.Path.{sym, _∙_}
+use Rattle.laws.specs.Unique.{Unique}
+use Rattle.text_number_at.proofs.number_at.Reads as number-at
+use Rattle.text_number_at.proofs.number_at.Kinds as number-at-kinds
+
+number-at-one : Unique 1 number-at-kinds.ps number-at-kinds.r number-at.Post
+number-at-one κs a x y s t p q = p ∙ sym q

@@ -1,0 +1,179 @@
+-- The field at a place of a line as a number, with the place where it ends; and the quick way for a field of four digits, which most are.
+use Prim.Native.Nat.{ℕ, zero, suc, _+_, _*_, _-_, _<_, _≤_}
+use mathlib.Core.Path.{_≡_, refl, sym, ap, _∙_}
+use mathlib.Core.Bool.{Bool, true, false, _&&_, _||_}
+use mathlib.Core.List.{List, [], _∷_, _++_}
+use mathlib.Core.Logic.{⊎-elim}
+use native.Mathlib.Nat.{not-suc-le-zero, le-of-suc-le-suc}
+use native.Mathlib.Omega.{arith}
+use lib.Dec.{leb, ltb, eqb, lit≤}
+use lib.ListN.{length, drop, getD, drop-of-length-le}
+use lib.Seq.{drop-cons}
+use borrow.Author.Tests.{le-ltb, ltb-false, leb-true, eqb-true, ne-eqb}
+use Rattle.laws.specs.Tests.{by-test, by-order, clash, and-left, and-right, or-cases}
+use Rattle.text_fields.specs.Finding.{before, lacks, before-at, before-none}
+use Rattle.text_fields.specs.Fields.{fieldAt}
+use Rattle.text_numbers.specs.Numbers.{digitsTo, numberTo, numberOf}
+use Rattle.text_fields.specs.Spelling.{decimal-lacks}
+use Rattle.text_numbers.specs.Canonical.{number-text}
+use Rattle.text_numbers.specs.declared.Number.{Number}
+use Rattle.text_numbers.specs.declared.Number.the-variants.{Value, Malformed}
+use Rattle.text_number_at.specs.declared.FieldNumber.{FieldNumber}
+use Rattle.text_number_at.specs.declared.FieldNumber.the-variants as field
+
+abbrev pub withEnd : Number → ℕ → FieldNumber
+withEnd (Value v) e = field.Value v e
+withEnd Malformed e = field.Malformed
+
+-- the field that starts at from, as a number, and where it ends
+abbrev pub numberAt : List ℕ → ℕ → FieldNumber
+numberAt line from = withEnd (numberOf (fieldAt line from)) (from + length (fieldAt line from))
+
+-- what was read says so of the field
+isNumber : FieldNumber → Bool
+isNumber (field.Value v e) = true
+isNumber field.Malformed = false
+
+numberIn : FieldNumber → ℕ
+numberIn (field.Value v e) = v
+numberIn field.Malformed = 0
+
+endIn : FieldNumber → ℕ
+endIn (field.Value v e) = e
+endIn field.Malformed = 0
+
+value-is : (n : Number) (x v e : ℕ) → withEnd n x ≡ field.Value v e → (n ≡ Value v) × (e ≡ x)
+unfolding isNumber numberIn endIn
+value-is (Value w) x v e q = (ap Value (ap numberIn q), sym (ap endIn q))
+value-is Malformed x v e q = clash refl (sym (ap isNumber q))
+
+none-is : (n : Number) (x : ℕ) → withEnd n x ≡ field.Malformed → n ≡ Malformed
+unfolding isNumber
+none-is (Value w) x q = clash refl (ap isNumber q)
+none-is Malformed x q = refl
+
+module _ (line : List ℕ) (from : ℕ) where
+  pub number-at-value : (v e : ℕ) → numberAt line from ≡ field.Value v e
+      → (numberOf (fieldAt line from) ≡ Value v) × (e ≡ from + length (fieldAt line from))
+  number-at-value v e q = value-is (numberOf (fieldAt line from)) (from + length (fieldAt line from)) v e q
+
+  pub number-at-none : numberAt line from ≡ field.Malformed → numberOf (fieldAt line from) ≡ Malformed
+  number-at-none q = none-is (numberOf (fieldAt line from)) (from + length (fieldAt line from)) q
+
+-- ---- four digits
+
+-- whether a byte is no digit
+abbrev pub noDigit : ℕ → Bool
+noDigit b = ltb b 48 || ltb 57 b
+
+-- the number that was read; 0 for none
+abbrev pub orZero : Number → ℕ
+orZero (Value v) = v
+orZero Malformed = 0
+
+-- the four bytes from a place on
+abbrev pub fourAt : List ℕ → ℕ → List ℕ
+fourAt line from = getD line from 0 ∷ getD line (from + 1) 0 ∷ getD line (from + 2) 0 ∷ getD line (from + 3) 0 ∷ []
+
+-- whether four bytes are left from a place on, and behind them the end or a tab
+abbrev pub fourLeft : List ℕ → ℕ → Bool
+fourLeft line from = leb (from + 4) (length line) && (leb (length line) (from + 4) || eqb (getD line (from + 4) 0) 9)
+
+module _ (b : ℕ) (t : noDigit b ≡ false) where
+  pub digit-low : 48 ≤ b
+  digit-low = by-test (ltb b 48) (λ u. clash refl (rw u at t)) (λ u. ltb-false b 48 u)
+
+  pub digit-high : b ≤ 57
+  digit-high = by-test (ltb 57 b) (λ u. clash refl (rw (le-ltb b 48 digit-low, u) at t)) (λ u. ltb-false 57 b u)
+
+  -- one digit is read
+  digit-on : (v : ℕ) (bs : List ℕ) → v * 10 + (b - 48) ≤ 65535 → digitsTo 65535 v (b ∷ bs) ≡ digitsTo 65535 (v * 10 + (b - 48)) bs
+  unfolding digitsTo
+  digit-on v bs h = rw (le-ltb b 48 digit-low, le-ltb 57 b digit-high, le-ltb _ _ h)
+
+-- a byte that is no digit, at any place
+digits-other : (v : ℕ) (f : List ℕ) (j : ℕ) → j < length f → noDigit (getD f j 0) ≡ true → digitsTo 65535 v f ≡ Malformed
+unfolding digitsTo
+digits-other v [] j h t = absurd (not-suc-le-zero h)
+digits-other v (b ∷ bs) zero h t = by-test (ltb b 48) (λ u. rw u) (λ u. rw (u, rw u at t))
+digits-other v (b ∷ bs) (suc j) h t =
+    by-test (ltb b 48) (λ u. rw u)
+    (λ u. rw u (by-test (ltb 57 b) (λ w. rw w)
+    (λ w. rw w (by-test (ltb 65535 (v * 10 + (b - 48))) (λ x. rw x)
+    (λ x. rw x (digits-other (v * 10 + (b - 48)) bs j (le-of-suc-le-suc h) t))))))
+
+pub number-byte : (f : List ℕ) (j : ℕ) → j < length f → noDigit (getD f j 0) ≡ true → numberOf f ≡ Malformed
+unfolding numberTo
+number-byte [] j h t = refl
+number-byte (b ∷ []) j h t = digits-other 0 (b ∷ []) j h t
+number-byte (b ∷ c ∷ bs) j h t = by-test (eqb b 48) (λ u. rw u) (λ u. rw u (digits-other 0 (b ∷ c ∷ bs) j h t))
+
+-- what four digits add up to
+pub four-span : (a b c d : ℕ) → noDigit a ≡ false → noDigit b ≡ false → noDigit c ≡ false → noDigit d ≡ false
+    → (53328 ≤ a * 1000 + b * 100 + c * 10 + d) × (a * 1000 + b * 100 + c * 10 + d ≤ 63327)
+four-span a b c d ta tb tc td =
+    (omega (arith, digit-low a ta, digit-low b tb, digit-low c tc, digit-low d td), omega (arith, digit-high a ta, digit-high b tb, digit-high c tc, digit-high d td))
+
+-- four digits, the first of which is not 0
+pub four-value : (a b c d : ℕ) → (a ≡ 48 → ⊥) → noDigit a ≡ false → noDigit b ≡ false → noDigit c ≡ false → noDigit d ≡ false
+    → numberOf (a ∷ b ∷ c ∷ d ∷ []) ≡ Value (a * 1000 + b * 100 + c * 10 + d - 53328)
+unfolding numberTo digitsTo
+four-value a b c d n ta tb tc td =
+    let la = digit-low a ta in let ha = digit-high a ta in
+    let lb = digit-low b tb in let hb = digit-high b tb in
+    let lc = digit-low c tc in let hc = digit-high c tc in
+    let ld = digit-low d td in let hd = digit-high d td in
+    let e : (((0 * 10 + (a - 48)) * 10 + (b - 48)) * 10 + (c - 48)) * 10 + (d - 48) ≡ a * 1000 + b * 100 + c * 10 + d - 53328 = omega arith in
+    rw (ne-eqb a 48 n)
+    (digit-on a ta 0 (b ∷ c ∷ d ∷ []) (omega arith)
+    ∙ digit-on b tb (0 * 10 + (a - 48)) (c ∷ d ∷ []) (omega arith)
+    ∙ digit-on c tc ((0 * 10 + (a - 48)) * 10 + (b - 48)) (d ∷ []) (omega arith)
+    ∙ digit-on d td (((0 * 10 + (a - 48)) * 10 + (b - 48)) * 10 + (c - 48)) [] (omega arith)
+    ∙ ap Value e)
+
+-- the text of a number has no tab
+number-lacks : (f : List ℕ) (v : ℕ) → numberOf f ≡ Value v → lacks 9 f ≡ true
+number-lacks f v e = rw (number-text 65535 f v e .0) (decimal-lacks 9 (lit≤ tt) v)
+
+or-zero-some : (n : Number) → 0 < orZero n → n ≡ Value (orZero n)
+or-zero-some (Value v) h = refl
+or-zero-some Malformed h = absurd (omega arith)
+
+drop-next : (x : List ℕ) (e f : ℕ) → f ≡ e + 1 → e < length x → drop e x ≡ getD x e 0 ∷ drop f x
+drop-next x e f q h = let k : suc e ≡ f = omega arith in drop-cons x e 0 h ∙ ap (λ (j : ℕ). getD x e 0 ∷ drop j x) k
+
+module _ (line : List ℕ) (from : ℕ) (t : fourLeft line from ≡ true) where
+  pub four-within : from + 4 ≤ length line
+  four-within = leb-true (from + 4) (length line) (and-left (leb (from + 4) (length line)) _ t)
+
+  four-left : drop from line ≡ fourAt line from ++ drop (from + 4) line
+  four-left =
+      let h = four-within in
+      drop-next line from (from + 1) refl (omega arith)
+      ∙ ap (λ (l : List ℕ). getD line from 0 ∷ l)
+      (drop-next line (from + 1) (from + 2) (omega arith) (omega arith)
+      ∙ ap (λ (l : List ℕ). getD line (from + 1) 0 ∷ l)
+      (drop-next line (from + 2) (from + 3) (omega arith) (omega arith)
+      ∙ ap (λ (l : List ℕ). getD line (from + 2) 0 ∷ l)
+      (drop-next line (from + 3) (from + 4) (omega arith) (omega arith))))
+
+  -- a number of four digits up to the end or the tab is the field
+  four-field : lacks 9 (fourAt line from) ≡ true → fieldAt line from ≡ fourAt line from
+  four-field n =
+      ap (before 9) four-left
+      ∙ by-order (from + 4) (length line)
+      (λ h.
+      let tab : getD line (from + 4) 0 ≡ 9 =
+      eqb-true _ _ (⊎-elim (λ q. absurd (let k = leb-true (length line) (from + 4) q in omega arith)) (λ q. q) (or-cases _ _ (and-right (leb (from + 4) (length line)) _ t))) in
+      ap (λ (l : List ℕ). before 9 (fourAt line from ++ l))
+      (drop-next line (from + 4) (from + 5) (omega arith) h ∙ ap (λ (b : ℕ). b ∷ drop (from + 5) line) tab)
+      ∙ before-at 9 (fourAt line from) (drop (from + 5) line) n)
+      (λ h. ap (λ (l : List ℕ). before 9 (fourAt line from ++ l)) (drop-of-length-le line h) ∙ before-none 9 (fourAt line from) n)
+
+  -- the quick way gives what the field says
+  pub four-quick : 0 < orZero (numberOf (fourAt line from))
+      → field.Value (orZero (numberOf (fourAt line from))) (from + 4) ≡ numberAt line from
+  four-quick h =
+      let e = or-zero-some _ h in
+      let f = four-field (number-lacks _ _ e) in
+      rw f (ap (λ (n : Number). withEnd n (from + 4)) (sym e))

@@ -1,0 +1,96 @@
+// Writing: bytes and decimal numbers put into a lent buffer, where they have room.
+ghost use mathlib.Core.Path.{_≡_};
+ghost use mathlib.Core.List.{[], _∷_};
+ghost use Prim.Native.Nat.{_+_, _≤_};
+ghost use lib.Dec.{leb};
+ghost use lib.ListN.{length};
+ghost use Rattle.text_fields.specs.Decimal.{decimal};
+ghost use Rattle.text_writing.specs.Placing.{Put, written};
+
+// Whether `count` bytes have room at `at` in a buffer of `size` bytes.
+fn has_room(size: usize, at: usize, count: usize) -> bool
+    ensures { λ r. ⌜ r ≡ leb (at + count) size ⌝ }
+{
+    if size < count {
+        return false;
+    }
+    at <= size - count
+}
+
+// Puts one byte at `at` and answers the place behind it; without room nothing is written and the answer is `at`.
+pub fn put_byte(out: &mut [u8], at: usize, b: u8) -> usize
+    ensures { λ r. ⌜ Put (now (out .entry)) at (b ∷ []) r (now (out .exit)) ⌝ }
+    ensures { λ r. ⌜ r ≤ at + 1 ⌝ }
+{
+    if at < out.len() {
+        out[at] = b;
+        return at + 1;
+    }
+    at
+}
+
+fn copy(out: &mut [u8], at: usize, text: &[u8])
+    requires { ⌜ at + length (now text) ≤ length (now out) ⌝ }
+    ensures { λ _. ⌜ now (out .exit) ≡ written (now (out .entry)) at (now (text .entry)) ⌝ }
+{
+    let mut i = 0;
+    while i < text.len() {
+        out[at + i] = text[i];
+        i += 1;
+    }
+}
+
+// Puts `text` at `at` and answers the place behind it; without room nothing is written and the answer is `at`.
+pub fn put_bytes(out: &mut [u8], at: usize, text: &[u8]) -> usize
+    ensures { λ r. ⌜ Put (now (out .entry)) at (now (text .entry)) r (now (out .exit)) ⌝ }
+    ensures { λ r. ⌜ r ≤ at + length (now (text .entry)) ⌝ }
+{
+    let n = text.len();
+    if has_room(out.len(), at, n) {
+        copy(out, at, text);
+        return at + n;
+    }
+    at
+}
+
+// How many digits `v` has.
+fn places(v: u32) -> usize
+    ensures { λ r. ⌜ r ≡ length (decimal v) ⌝ }
+    ensures { λ r. ⌜ (1 ≤ r) × (r ≤ 10) ⌝ }
+{
+    let mut k: usize = 1;
+    let mut rest = v;
+    while 10 <= rest {
+        rest /= 10;
+        k += 1;
+    }
+    k
+}
+
+// Puts the `k` digits of `v` at `at`, the last one first.
+fn put_digits(out: &mut [u8], at: usize, k: usize, v: u32)
+    requires { ⌜ (k ≡ length (decimal v)) × (1 ≤ k) × (at + k ≤ length (now out)) ⌝ }
+    ensures { λ _. ⌜ now (out .exit) ≡ written (now (out .entry)) at (decimal v) ⌝ }
+{
+    let mut i = at + k - 1;
+    let mut rest = v;
+    while 10 <= rest {
+        out[i] = (48 + rest % 10) as u8;
+        rest /= 10;
+        i -= 1;
+    }
+    out[i] = (48 + rest) as u8;
+}
+
+// Puts the decimal text of `v` at `at` and answers the place behind it; without room nothing is written and the answer is `at`.
+pub fn put_decimal(out: &mut [u8], at: usize, v: u32) -> usize
+    ensures { λ r. ⌜ Put (now (out .entry)) at (decimal v) r (now (out .exit)) ⌝ }
+    ensures { λ r. ⌜ r ≤ at + 10 ⌝ }
+{
+    let k = places(v);
+    if has_room(out.len(), at, k) {
+        put_digits(out, at, k, v);
+        return at + k;
+    }
+    at
+}
