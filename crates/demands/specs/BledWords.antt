@@ -1,21 +1,26 @@
--- What 0x46 showed after each accepted sample of a history, and that it is what the history of wishes says was bled.
+-- What 0x46 showed after each accepted sample of a history, that it is what the history of wishes says was bled, and the four sentences
+-- of the third demand about it.
 -- Assumes nothing.
 use mathlib.Core.Path.{_≡_, refl, ap, _∙_}
-use mathlib.Core.Bool.{Bool}
+use mathlib.Core.Bool.{Bool, true, false}
 use mathlib.Core.List.{List, [], _∷_}
-use Prim.Native.Nat.{ℕ, zero, suc, _-_, _≤_}
+use Prim.Native.Nat.{ℕ, zero, suc, _-_, _≤_, _<_}
 use native.Mathlib.Omega.{arith}
-use lib.ListN.{drop}
+use lib.Count.{ones, onesIn}
+use lib.ListN.{drop, getD}
 use borrow.Author.Tests.{lt-ltb}
+use Rattle.laws.specs.Tests.{clash}
+use Rattle.laws.specs.Bits.{hasBit, has-zero}
 use Rattle.laws.specs.Latest.{lastAll, among}
 use Rattle.sample.specs.declared.Sample.{Sample}
 use Rattle.page_settings.specs.declared.Settings.{Settings}
 use Rattle.page_settings.specs.Good.{Good}
 use Rattle.bleed.specs.Walk.Walk.{has}
-use Rattle.bleed.specs.Walk.History.{bleds}
+use Rattle.bleed.specs.Walk.History.{wantsCell}
 use Rattle.bleed_wants.specs.Word.{inWord}
-use Rattle.bleed.specs.Walk.Balance.{bledWord, bledNow, bled-bit}
-use Rattle.pack_state.specs.State.{wishesOf, bledAfter}
+use Rattle.bleed.specs.Walk.Demand.{fair-anywhere, never-over-R}
+use Rattle.bleed.specs.Walk.Balance.{bledWord, bledNow, bled-bit, bled-few, bled-apart}
+use Rattle.pack_state.specs.State.{byPage, wishesOf, bledAfter, bledsAfter}
 
 -- The bled words of a history, one for each accepted sample: what 0x46 showed after it.
 abbrev pub bledWords : Settings → List Sample → List ℕ
@@ -56,22 +61,54 @@ module _ {A B : Type 0} (p : A → Bool) (q : B → Bool) where
 -- ---- the words of an accepted page
 
 module _ (page : Settings) (good : Good page) where
-  pub some : 1 ≤ page .rules .n
+  some : 1 ≤ page .rules .n
   some = let g = good .n in omega arith
 
-  pub ten : page .rules .n ≤ 10
+  ten : page .rules .n ≤ 10
   ten = good .n .1
 
   -- Cell k is in the bled word exactly if it was bled.
-  word-has : (k : ℕ) → 1 ≤ k → (ws : List (ℕ → Bool))
-      → inWord (bledWord (page .rules .n) (page .rules .k) (page .rules .r) ws) k ≡ has k (bledNow (page .rules .n) (page .rules .k) (page .rules .r) ws)
+  word-has : (k : ℕ) → 1 ≤ k → (ws : List (ℕ → Bool)) → inWord (byPage page bledWord ws) k ≡ has k (byPage page bledNow ws)
   unfolding inWord
   word-has k first ws =
       let e : suc (k - 1) ≡ k = omega arith in
-      rw (lt-ltb 0 k first) (bled-bit (page .rules .n) (page .rules .k) (page .rules .r) some ten ws (k - 1) ∙ ap (λ (i : ℕ). has i (bledNow (page .rules .n) (page .rules .k) (page .rules .r) ws)) e)
+      rw (lt-ltb 0 k first) (byPage page bled-bit some ten ws (k - 1) ∙ ap (λ (i : ℕ). has i (byPage page bledNow ws)) e)
 
-  pub words-alike : (k : ℕ) → 1 ≤ k → (h : List Sample)
-      → Alike (λ w. inWord w k) (has k) (bledWords page h) (bleds (page .rules .n) (page .rules .k) (page .rules .r) (wishesOf page h))
+  pub words-alike : (k : ℕ) → 1 ≤ k → (h : List Sample) → Alike (λ w. inWord w k) (has k) (bledWords page h) (bledsAfter page h)
   unfolding bledAfter wishesOf
   words-alike k first [] = tt
   words-alike k first (s ∷ h) = (word-has k first (wishesOf page (s ∷ h)), words-alike k first h)
+
+  later-alike : (k : ℕ) → 1 ≤ k → (j : ℕ) (h : List Sample)
+      → Alike (λ w. inWord w k) (has k) (drop j (bledWords page h)) (drop j (bledsAfter page h))
+  later-alike k first j h = alike-drop (λ w. inWord w k) (has k) j (bledWords page h) (bledsAfter page h) (words-alike k first h)
+
+  -- Cell k wants at n + 1 accepted samples in a row, j samples before the latest: it is bled in at least one of them.
+  pub words-fair : (k : ℕ) → 1 ≤ k → k ≤ page .rules .n → (j : ℕ) (h : List Sample)
+      → lastAll (suc (page .rules .n)) (wantsCell k) (drop j (wishesOf page h)) ≡ true
+      → 0 < among (suc (page .rules .n)) (λ w. inWord w k) (drop j (bledWords page h))
+  words-fair k first last j h wanting =
+      rw (alike-among (λ w. inWord w k) (has k) (suc (page .rules .n)) (drop j (bledWords page h)) (drop j (bledsAfter page h)) (later-alike k first j h))
+      (byPage page fair-anywhere (good .k .0) (good .r .0) k first last j (wishesOf page h) wanting)
+
+  -- No cell is bled at more than R accepted samples in a row.
+  pub words-run : (k : ℕ) → 1 ≤ k → (j : ℕ) (h : List Sample)
+      → lastAll (suc (page .rules .r)) (λ w. inWord w k) (drop j (bledWords page h)) ≡ false
+  words-run k first j h =
+      alike-last (λ w. inWord w k) (has k) (suc (page .rules .r)) (drop j (bledWords page h)) (drop j (bledsAfter page h)) (later-alike k first j h)
+      ∙ byPage page never-over-R k j (wishesOf page h)
+
+  -- Never are two neighbours bled at once: bits i and i + 1 stand for cells i + 1 and i + 2.
+  pub words-apart : (i j : ℕ) (h : List Sample) → hasBit (getD (bledWords page h) j 0) i ≡ true
+      → hasBit (getD (bledWords page h) j 0) (suc i) ≡ true → ⊥
+  unfolding bledAfter
+  words-apart i j [] a b = clash a (has-zero i)
+  words-apart i zero (s ∷ h) a b = byPage page bled-apart some ten (wishesOf page (s ∷ h)) i a b
+  words-apart i (suc j) (s ∷ h) a b = words-apart i j h a b
+
+-- Nor more than K cells: of any page.
+pub words-few : (page : Settings) (j : ℕ) (h : List Sample) → ones (getD (bledWords page h) j 0) ≤ page .rules .k
+unfolding bledAfter ones onesIn
+words-few page j [] = omega arith
+words-few page zero (s ∷ h) = byPage page bled-few (wishesOf page (s ∷ h))
+words-few page (suc j) (s ∷ h) = words-few page j h

@@ -14,7 +14,7 @@ use Rattle.pack.specs.Answers.{offered, commanded}
 use Rattle.pack.specs.Kept.{pageOf, pastAfter, stateAfter, afterLoad}
 use Rattle.pack_shown.specs.Shown.{decisionAfter}
 use Rattle.pack.specs.After.{after, after-is}
-use Rattle.demands.specs.Demands.{demand-2-decision}
+use Rattle.demands.specs.Shown.{shown-is}
 use Rattle.log_entries.specs.declared.Kind.{Kind}
 use Rattle.log_entries.specs.declared.Kind.the-variants.{Offer, Command, Malformed}
 use Rattle.log_entries.specs.declared.Entry.{Entry}
@@ -61,7 +61,7 @@ module _ (page : List ℕ) where
   cells-are es = ap (λ (p : Pack). p .rules .n) (after-is page es)
 
   told-is : (v : Verdict) (es : List Event) → toldBy v (after page es) ≡ saidOf v es
-  told-is verdict.Accepted es = ap Decided (demand-2-decision page es)
+  told-is verdict.Accepted es = ap Decided (shown-is page es)
   told-is (verdict.Refused number word) es = refl
 
   turn-is : (k : Kind) (es : List Event) (e : Entry)
