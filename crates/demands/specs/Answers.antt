@@ -26,22 +26,22 @@ use Rattle.log_answers.specs.Turns.{toldBy, answeredAs, turnedBy, turnOf}
 -- ---- an answer
 
 -- Accepted, and no row of the table applies; or refused with the lowest number that applies, and its lowest word at fault.
-abbrev pub Answer : Verdict → List Refusal → Type 0
-Answer v rows = ((v ≡ Accepted) × NoFault rows) ⊎ ((k : ℕ) × (w : ℕ) × (v ≡ Refused k w) × Lowest rows k w)
+abbrev pub IsAnswered : Verdict → List Refusal → Type 0
+IsAnswered v rows = ((v ≡ Accepted) × NoFault rows) ⊎ ((k : ℕ) × (w : ℕ) × (v ≡ Refused k w) × Lowest rows k w)
 
-pub an-answer : (v : Verdict) (rows : List Refusal) → ((v ≡ Accepted) ↔ NoFault rows)
-    → ((k w : ℕ) → (v ≡ Refused k w) ↔ Lowest rows k w) → Answer v rows
-an-answer Accepted rows none some = inl (refl, none .0 refl)
-an-answer (Refused k w) rows none some = inr (k, w, refl, some k w .0 refl)
+pub is-answered : (v : Verdict) (rows : List Refusal) → ((v ≡ Accepted) ↔ NoFault rows)
+    → ((k w : ℕ) → (v ≡ Refused k w) ↔ Lowest rows k w) → IsAnswered v rows
+is-answered Accepted rows none some = inl (refl, none .0 refl)
+is-answered (Refused k w) rows none some = inr (k, w, refl, some k w .0 refl)
 
 -- The same for a reply, whose refusals name word 0.
-abbrev pub Reply : Replied → List Refusal → Type 0
-Reply r rows = ((r ≡ reply.Sent) × NoFault rows) ⊎ ((k : ℕ) × (r ≡ reply.Refused k) × Lowest rows k 0)
+abbrev pub IsReplied : Replied → List Refusal → Type 0
+IsReplied r rows = ((r ≡ reply.Sent) × NoFault rows) ⊎ ((k : ℕ) × (r ≡ reply.Refused k) × Lowest rows k 0)
 
-pub a-reply : (r : Replied) (rows : List Refusal) → ((r ≡ reply.Sent) ↔ NoFault rows)
-    → ((k : ℕ) → (r ≡ reply.Refused k) ↔ Lowest rows k 0) → Reply r rows
-a-reply reply.Sent rows none some = inl (refl, none .0 refl)
-a-reply (reply.Refused k) rows none some = inr (k, refl, some k .0 refl)
+pub is-replied : (r : Replied) (rows : List Refusal) → ((r ≡ reply.Sent) ↔ NoFault rows)
+    → ((k : ℕ) → (r ≡ reply.Refused k) ↔ Lowest rows k 0) → IsReplied r rows
+is-replied reply.Sent rows none some = inl (refl, none .0 refl)
+is-replied (reply.Refused k) rows none some = inr (k, refl, some k .0 refl)
 
 -- ---- samples and commands
 

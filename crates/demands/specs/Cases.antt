@@ -52,18 +52,18 @@ numbers p (e ∷ es) = (answerOf (answer p e .verdict) .number ∷ []) ∷ numbe
 -- What is computed, and what it is to be.
 pub record Case : Type 0 where
   pub got : List (List ℕ)
-  pub want : List (List ℕ)
+  pub right : List (List ℕ)
 
 abbrev case : List (List ℕ) → List (List ℕ) → Case
-case g w = record { got = g; want = w }
+case g w = record { got = g; right = w }
 
-abbrev gotten : List Case → List (List (List ℕ))
-gotten [] = []
-gotten (c ∷ cs) = c .got ∷ gotten cs
+abbrev gotAll : List Case → List (List (List ℕ))
+gotAll [] = []
+gotAll (c ∷ cs) = c .got ∷ gotAll cs
 
-abbrev wanted : List Case → List (List (List ℕ))
-wanted [] = []
-wanted (c ∷ cs) = c .want ∷ wanted cs
+abbrev rightAll : List Case → List (List (List ℕ))
+rightAll [] = []
+rightAll (c ∷ cs) = c .right ∷ rightAll cs
 
 abbrev each : List ℕ → List (List ℕ)
 each [] = []
@@ -198,7 +198,7 @@ abbrev pub cases : List Case
 cases = replay ∷ limitCases ∷ countCases ∷ commandCases ∷ pagelessCases ∷ modeCases ∷ []
 
 -- Every case gives what it is to give.
-pub cases-pass : gotten cases ≡ wanted cases
+pub cases-pass : gotAll cases ≡ rightAll cases
 unfolding computed
 cases-pass = refl
 

@@ -30,6 +30,7 @@ use Rattle.bleed.specs.Walk.History.{wantsCell}
 use Rattle.pack_refusals.specs.Samples.{sampleRefusals, commandRefusals}
 use Rattle.pack_state.specs.declared.Pack.{Pack}
 use Rattle.pack_state.specs.State.{bledAfter}
+use Rattle.pack_state.specs.Steps.{wishes-length}
 use Rattle.pack.specs.Events.{Event, offer, command}
 use Rattle.pack.specs.Answers.{offered, commanded}
 use Rattle.pack.specs.Kept.{pageOf, pastAfter, stateAfter, afterLoad}
@@ -51,7 +52,7 @@ use Rattle.log_answers.specs.Seventeen.{isSeventeen, isMalformed, seventeen-exa
 use Rattle.log_texts.specs.Texts.{headerText}
 use Rattle.log.specs.Replay.{replayed}
 use Rattle.demands.specs.Answers as answers
-use Rattle.demands.specs.Answers.{Answer, Reply, an-answer, a-reply}
+use Rattle.demands.specs.Answers.{IsAnswered, IsReplied, is-answered, is-replied}
 use Rattle.demands.specs.BledWords.{bledWords, words-fair, words-run, words-apart, words-few}
 use Rattle.demands.specs.History.{says, story, line-told, replay-says}
 use Rattle.demands.specs.Shown as shown
@@ -65,21 +66,21 @@ use Rattle.demands.specs.Written.{pageFor}
 -- ---- "Any page, sample, command or log line gets an answer."
 
 -- A page: accepted, or refused by rows 1 to 8.
-pub demand-1-page : (bytes : List ℕ) → Answer (judged bytes) (refusals bytes)
-demand-1-page b = an-answer (judged b) (refusals b) (page.accepted-exactly b) (page.refused-exactly b)
+pub demand-1-page : (bytes : List ℕ) → IsAnswered (judged bytes) (refusals bytes)
+demand-1-page b = is-answered (judged b) (refusals b) (page.accepted-exactly b) (page.refused-exactly b)
 
 -- A sample that is offered to a pack: accepted, or refused by rows 9 to 11.
-pub demand-1-sample : (p : Pack) (s : Sample) → Answer (offered p s .verdict) (sampleRefusals (p .rules .n) s)
-demand-1-sample p s = an-answer _ _ (answers.sample-accepted-exactly p s) (answers.sample-refused-exactly p s)
+pub demand-1-sample : (p : Pack) (s : Sample) → IsAnswered (offered p s .verdict) (sampleRefusals (p .rules .n) s)
+demand-1-sample p s = is-answered _ _ (answers.sample-accepted-exactly p s) (answers.sample-refused-exactly p s)
 
 -- A switch command: accepted, or refused by row 16.
-pub demand-1-command : (p : Pack) (c : ℕ) → Answer (commanded p c .verdict) (commandRefusals (p .rules .n) c)
-demand-1-command p c = an-answer _ _ (answers.command-accepted-exactly p c) (answers.command-refused-exactly p c)
+pub demand-1-command : (p : Pack) (c : ℕ) → IsAnswered (commanded p c .verdict) (commandRefusals (p .rules .n) c)
+demand-1-command p c = is-answered _ _ (answers.command-accepted-exactly p c) (answers.command-refused-exactly p c)
 
 -- A command on the bus, with a buffer of any length: sent, or refused by rows 12 to 15.
-pub demand-1-reply : (p : Pack) (c room : ℕ) → Reply (repliedTo p c room) (replyRefusals (p .rules .n) (p .sampled) c room)
+pub demand-1-reply : (p : Pack) (c room : ℕ) → IsReplied (repliedTo p c room) (replyRefusals (p .rules .n) (p .sampled) c room)
 unfolding repliedTo
-demand-1-reply p c room = a-reply _ _ (bus.sent-exactly (p .rules .n) (p .sampled) c room) (bus.refused-exactly (p .rules .n) (p .sampled) c room)
+demand-1-reply p c room = is-replied _ _ (bus.sent-exactly (p .rules .n) (p .sampled) c room) (bus.refused-exactly (p .rules .n) (p .sampled) c room)
 
 -- A line of the log behind any events: 17, or what document 01 says of its sample or its command (`says`).
 pub demand-1-line : (bytes : List ℕ) (es : List Event) (line : List ℕ) → turnOf (after bytes es) line .told ≡ says bytes es line
@@ -241,6 +242,11 @@ Suffice n m =
 
 -- ---- "From a fresh load, over any history, a cell that wants bleeding at n + 1 consecutive accepted samples, n being the number of
 -- cells, is bled in at least one of them, whatever the other cells do."
+
+-- One balance is shown for each accepted sample, and the wishes are one for each sample.
+pub demand-3-each : (bytes : List ℕ) (es : List Event)
+    → (length (shownWords bytes es) ≡ length (samples bytes es)) × (length (wanted bytes es) ≡ length (samples bytes es))
+demand-3-each bytes es = (shown.shown-each bytes es, wishes-length (pageOf bytes) (samples bytes es))
 
 page-good : (bytes : List ℕ) → judged bytes ≡ Accepted → Good (pageOf bytes)
 page-good bytes taken = rw (page-accepted bytes taken) (accepted-good bytes taken)

@@ -123,6 +123,14 @@ shown-words bytes (offer s ∷ es) =
     (λ t. rw (verdict-is bytes es s, t) (shown-words bytes es ∙ sym (ap (bledWords (pageOf bytes)) (behind bytes es s false t))))
 shown-words bytes (command c ∷ es) = shown-words bytes es ∙ sym (ap (bledWords (pageOf bytes)) (samples-command bytes es c))
 
+words-each : (page : Settings) (h : List Sample) → length (bledWords page h) ≡ length h
+words-each page [] = refl
+words-each page (s ∷ h) = ap suc (words-each page h)
+
+-- One is shown for each accepted sample.
+pub shown-each : (bytes : List ℕ) (es : List Event) → length (shownWords bytes es) ≡ length (samples bytes es)
+shown-each bytes es = ap length (shown-words bytes es) ∙ words-each (pageOf bytes) (samples bytes es)
+
 -- ---- the words of the page
 
 cells-some : (n : ℕ) (s : Sample) → accepts (sampleVerdict n s) ≡ true → 0 < n

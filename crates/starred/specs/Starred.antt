@@ -78,9 +78,9 @@ wanting = [] ∷ [] ∷ (1 ∷ 2 ∷ []) ∷ (1 ∷ 3 ∷ []) ∷ (1 ∷ 2 ∷ [
 
 module _ (d : Definitions) where
   -- Whether protection 0, the over voltage, is raised after each sample, in the order of time.
-  abbrev raisedAt : Limits → List Sample → List Sample → List Bool
-  raisedAt l past [] = []
-  raisedAt l past (s ∷ coming) = d .raised 0 l (s ∷ past) ∷ raisedAt l (s ∷ past) coming
+  abbrev raisedAlong : Limits → List Sample → List Sample → List Bool
+  raisedAlong l past [] = []
+  raisedAlong l past (s ∷ coming) = d .raised 0 l (s ∷ past) ∷ raisedAlong l (s ∷ past) coming
 
   -- The cells bled at each sample, in the order of time.
   abbrev bled : ℕ → ℕ → ℕ → List (List ℕ) → List (List ℕ)
@@ -108,7 +108,7 @@ module _ (d : Definitions) where
       × (d .checkByte (0x31 ∷ 0x32 ∷ 0x33 ∷ 0x34 ∷ 0x35 ∷ 0x36 ∷ 0x37 ∷ 0x38 ∷ 0x39 ∷ []) ≡ 0xF4))
       -- (*) "Trip 4250, release 4150, N 3, M 2. Highest cell 4250, 4250, 4249, 4250, 4250, 4250: raised at the sixth only. Then 4150,
       -- 4151, 4150, 4150: released at the fourth." With mask 1.
-      ∷ (raisedAt (limited (pos 4250) (pos 4150) 3 2 1) []
+      ∷ (raisedAlong (limited (pos 4250) (pos 4150) 3 2 1) []
       (high 4250 ∷ high 4250 ∷ high 4249 ∷ high 4250 ∷ high 4250 ∷ high 4250 ∷ high 4150 ∷ high 4151 ∷ high 4150 ∷ high 4150 ∷ [])
       ≡ (no ∷ no ∷ no ∷ no ∷ no ∷ yes ∷ yes ∷ yes ∷ yes ∷ no ∷ []))
       -- (*) "n 3, K 1, R 1. At samples 3 to 7 the wanting cells are {1,2}, {1,3}, {1,2}, {1,3}, {1,2}; none want earlier. Bled: 1, 3,
