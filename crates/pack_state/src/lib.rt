@@ -30,7 +30,7 @@ pub struct Balance {
 }
 
 // The state of a pack: what the page says (its limits stand in the protections), and what was kept since. It does not grow with the
-// history. Without a page n is 0, and every sample and command is refused.
+// history. Without a page n is 0, and every sample is refused.
 pub struct Pack {
     pub rules: Rules,
     pub protections: [Protection; PROTECTIONS],

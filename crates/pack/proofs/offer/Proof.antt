@@ -15,7 +15,7 @@ trim-requires : tie.Need-trim-requires
 trim-requires c κs = search needs
 
 accept-requires : tie.Need-accept-requires
-accept-requires c κs = kept-ready _ _ (c .before .before .before .before .before .pre) (sym (c .before .before .before .sample-verdict .ensures) ∙ c .before .enum-told .given .1)
+accept-requires c κs = kept-ready _ _ (c .before .before .before .before .before .pre) (sym (c .before .before .before .sample-verdict .ensures .0) ∙ c .before .enum-told .given .1)
 
 enum-told-2 : tie.Need-enum-told-2
 enum-told-2 c = search needs
