@@ -48,35 +48,33 @@ abbrev pub anySample : List Sample → Bool
 anySample [] = false
 anySample (s ∷ h) = true
 
+-- "n 3, K 1, R 1": what depends on n, K and R, by those of a page. It serves definitions (`byPage page bleds ws`) and laws alike.
+abbrev pub byPage : {P : ℕ → ℕ → ℕ → Type 0} (page : Settings) → ((n K R : ℕ) → P n K R) → P (page .rules .n) (page .rules .k) (page .rules .r)
+byPage page f = f (page .rules .n) (page .rules .k) (page .rules .r)
+
 module _ (page : Settings) where
-  -- n, K and R of the page.
-  abbrev n : ℕ
-  n = page .rules .n
-
-  abbrev K : ℕ
-  K = page .rules .k
-
-  abbrev R : ℕ
-  R = page .rules .r
+  -- The cells bled at each sample of a history, the latest first.
+  abbrev pub bledsAfter : List Sample → List (List ℕ)
+  bledsAfter h = byPage page bleds (wishesOf page h)
 
   -- The word of the cells that rested at the latest sample; none before the first.
   unfoldable pub restedAfter : List Sample → ℕ
   restedAfter [] = 0
-  restedAfter (s ∷ h) = wordTo n (resting R (bleds n K R (wishesOf page h)))
+  restedAfter (s ∷ h) = wordTo (page .rules .n) (resting (page .rules .r) (bledsAfter h))
 
   -- The word of the cells that were bled at the latest sample; none before the first.
   unfoldable pub bledAfter : List Sample → ℕ
-  bledAfter h = bledWord n K R (wishesOf page h)
+  bledAfter h = byPage page bledWord (wishesOf page h)
 
   -- What bleeding keeps. The latest of i samples had i - 1 before it.
   unfoldable pub balanceAfter : List Sample → Balance
   balanceAfter h =
       record {
-        begun = record { 0 = startCell n (length h - 1) };
+        begun = record { 0 = startCell (page .rules .n) (length h - 1) };
         rested = restedAfter h;
         bled = bledAfter h;
-        start = record { 0 = startCell n (length h) };
-        runs = runsOf n K R (wishesOf page h);
+        start = record { 0 = startCell (page .rules .n) (length h) };
+        runs = byPage page runsOf (wishesOf page h);
       }
 
   -- The state of a pack with this page after this past.

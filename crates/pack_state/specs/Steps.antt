@@ -29,7 +29,7 @@ use Rattle.page_settings.specs.declared.Rules.{Rules}
 use Rattle.pack_state.specs.declared.Balance.{Balance}
 use Rattle.pack_state.specs.declared.Pack.{Pack}
 use Rattle.pack_state.specs.Past.{Past, past}
-use Rattle.pack_state.specs.State.{wishAt, wishesOf, restedAfter, bledAfter, balanceAfter, stateOf, nextTick, nextBalance, wantWith, wantAt, Ready, acceptedPack, freshBalance, freshPack}
+use Rattle.pack_state.specs.State.{byPage, wishAt, wishesOf, restedAfter, bledAfter, balanceAfter, stateOf, nextTick, nextBalance, wantWith, wantAt, Ready, acceptedPack, freshBalance, freshPack}
 
 -- ---- the tick
 
@@ -99,17 +99,16 @@ module _ (page : Settings) (good : Good page) where
 
   -- Who rests by the counters is who rests by the history.
   rested-word : (ws : List (ℕ → Bool))
-      → restingWord (page .rules .n) (page .rules .r) (runsOf (page .rules .n) (page .rules .k) (page .rules .r) ws)
-      ≡ wordTo (page .rules .n) (resting (page .rules .r) (bleds (page .rules .n) (page .rules .k) (page .rules .r) ws))
+      → restingWord (page .rules .n) (page .rules .r) (byPage page runsOf ws) ≡ wordTo (page .rules .n) (resting (page .rules .r) (byPage page bleds ws))
   unfolding restingWord
   rested-word ws =
-      rw (ten-is (page .rules .n) ten) (word-same (page .rules .n) _ _ (λ k a b. rested-is (page .rules .n) (page .rules .k) (page .rules .r) ws k a (let t = ten in omega arith)))
+      rw (ten-is (page .rules .n) ten) (word-same (page .rules .n) _ _ (λ k a b. byPage page rested-is ws k a (let t = ten in omega arith)))
 
   -- Nobody rests where nobody was bled at the latest sample: R is 1 at least.
-  nobody-rests : (ws : List (ℕ → Bool)) → bledWord (page .rules .n) (page .rules .k) (page .rules .r) ws ≡ 0
-      → restingWord (page .rules .n) (page .rules .r) (runsOf (page .rules .n) (page .rules .k) (page .rules .r) ws) ≡ 0
+  nobody-rests : (ws : List (ℕ → Bool)) → byPage page bledWord ws ≡ 0
+      → restingWord (page .rules .n) (page .rules .r) (byPage page runsOf ws) ≡ 0
   nobody-rests ws e =
-      ap (restingWord (page .rules .n) (page .rules .r)) (runs-idle (page .rules .n) (page .rules .k) (page .rules .r) some ten short ws e)
+      ap (restingWord (page .rules .n) (page .rules .r)) (byPage page runs-idle some ten short ws e)
       ∙ none-rest (page .rules .n) (page .rules .r) (let h = good .r in omega arith)
 
   -- One step of bleeding.
@@ -120,17 +119,16 @@ module _ (page : Settings) (good : Good page) where
       let ws = wishesOf page h in
       let same : length h ≡ length ws = sym (wishes-length page h) in
       let begun : suc (length h) - 1 ≡ length h = omega arith in
-      let who : restingWord (page .rules .n) (page .rules .r) (runsOf (page .rules .n) (page .rules .k) (page .rules .r) ws) ≡ wordTo (page .rules .n) (resting (page .rules .r) (bleds (page .rules .n) (page .rules .k) (page .rules .r) ws)) =
-      rested-word ws in
-      let chose = choose-is (page .rules .n) (page .rules .k) (page .rules .r) some ten (wishAt page s h) ws want shows in
-      let runs = runs-are (page .rules .n) (page .rules .k) (page .rules .r) some ten (wishAt page s h) ws short in
-      let next = next-start-is (page .rules .n) (length h) some in
+      let rests : ℕ = restingWord (page .rules .n) (page .rules .r) (byPage page runsOf ws) in
+      let bled : chosenWord (page .rules .n) (page .rules .k) want rests (startCell (page .rules .n) (length h)) ≡ byPage page bledWord (wishAt page s h ∷ ws) =
+      ap (λ (i : ℕ). chosenWord (page .rules .n) (page .rules .k) want rests (startCell (page .rules .n) i)) same
+      ∙ byPage page choose-is some ten (wishAt page s h) ws want shows in
       balance-same
-      (ap (λ (x : ℕ). record { 0 = startCell (page .rules .n) x }) (sym begun))
-      who
-      (ap (chosenWord (page .rules .n) (page .rules .k) want (restingWord (page .rules .n) (page .rules .r) (runsOf (page .rules .n) (page .rules .k) (page .rules .r) ws))) (ap (startCell (page .rules .n)) same) ∙ chose)
-      (ap (λ (x : ℕ). record { 0 = x }) next)
-      (ap (λ (x : ℕ). nextRuns x (runsOf (page .rules .n) (page .rules .k) (page .rules .r) ws)) (ap (chosenWord (page .rules .n) (page .rules .k) want (restingWord (page .rules .n) (page .rules .r) (runsOf (page .rules .n) (page .rules .k) (page .rules .r) ws))) (ap (startCell (page .rules .n)) same) ∙ chose) ∙ runs)
+      (ap (λ (i : ℕ). record { 0 = startCell (page .rules .n) i }) (sym begun))
+      (rested-word ws)
+      bled
+      (ap (λ (k : ℕ). record { 0 = k }) (next-start-is (page .rules .n) (length h) some))
+      (ap (λ (w : ℕ). nextRuns w (byPage page runsOf ws)) bled ∙ byPage page runs-are some ten (wishAt page s h) ws short)
 
   -- ---- the whole state
 
