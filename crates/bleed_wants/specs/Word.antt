@@ -1,6 +1,6 @@
 -- A set of cells as a word, bit k - 1 for cell k: which cells are in it, and the word of the cells that pass a test.
 -- Assumes nothing.
-use mathlib.Core.Path.{_≡_, refl, ap, _∙_}
+use mathlib.Core.Path.{_≡_, refl, ap, ap₂, _∙_}
 use mathlib.Core.Bool.{Bool, false, cond, _&&_}
 use mathlib.Core.Logic.{⊎-elim}
 use Prim.Native.Nat.{ℕ, zero, suc, _+_, _-_, _≤_, _<_, zero-le}
@@ -28,6 +28,13 @@ pub wordTo-next : (i : ℕ) (p : ℕ → Bool) (w r : ℕ) (b : Bool) → w ≡ 
     → r ≡ wordTo (i + 1) p
 unfolding wordTo
 wordTo-next i p w r b e t er = rw (add-one, er, t, e)
+
+-- The word depends only on what the test says of its cells.
+pub wordTo-same : (m : ℕ) (p q : ℕ → Bool) → ((k : ℕ) → 1 ≤ k → k ≤ m → p k ≡ q k) → wordTo m p ≡ wordTo m q
+unfolding wordTo
+wordTo-same zero p q same = refl
+wordTo-same (suc i) p q same =
+    ap₂ (λ (b : Bool) (w : ℕ). withBitIf b w i) (same (suc i) (omega arith) (omega arith)) (wordTo-same i p q (λ k a b. same k a (omega arith)))
 
 -- A test that no cell passes makes the empty word,
 pub wordTo-none : (m : ℕ) (p : ℕ → Bool) → ((k : ℕ) → p k ≡ false) → wordTo m p ≡ 0

@@ -16,7 +16,7 @@ use Rattle.laws.specs.Each.{eachTo}
 use Rattle.units.specs.declared.MilliVolts.{MilliVolts}
 use Rattle.sample.specs.declared.Sample.{Sample}
 use Rattle.sample.specs.Cells.{noVolts, lookedAt, looked-most}
-use Rattle.pack_refusals.specs.Samples.{cellFits, cellsFit, keptCell, trimmed, sampleRefusals, sampleVerdict, commandVerdict}
+use Rattle.pack_refusals.specs.Samples.{cellFits, cellsFit, exactCount, keptCell, trimmed, sampleRefusals, sampleVerdict, commandVerdict}
 use Rattle.page_settings.specs.Good.{Good}
 use Rattle.pack_state.specs.declared.Pack.{Pack}
 use Rattle.pack.specs.Events.{Event, offer, command, accepts, withEvent, pastOf}
@@ -71,7 +71,7 @@ unfolding sampleVerdict sampleRefusals
 accepted-fits n s e =
     by-test (cellsFit (s .cells) (lookedAt (s .count)))
     (λ t. t)
-    (λ t. by-test (ltb 0 n && eqb (s .count) n) (λ u. clash e (rw (u, t))) (λ u. clash e (rw u)))
+    (λ t. by-test (exactCount n (s .count)) (λ u. clash e (rw (u, t))) (λ u. clash e (rw u)))
 
 trimmed-most : (n : ℕ) (s : Sample) → accepts (sampleVerdict n s) ≡ true → sumOf (trimmed s) ≤ 60000
 unfolding trimmed
@@ -88,7 +88,7 @@ latest-most n [] = omega arith
 latest-most n (offer s ∷ es) =
     by-test (accepts (sampleVerdict n s)) (λ t. rw t (trimmed-most n s t)) (λ t. rw t (latest-most n es))
 latest-most n (command c ∷ es) =
-    by-test (accepts (commandVerdict n c)) (λ t. rw t (latest-most n es)) (λ t. rw t (latest-most n es))
+    by-test (accepts (commandVerdict c)) (λ t. rw t (latest-most n es)) (λ t. rw t (latest-most n es))
 
 -- n × word 7.
 pub voltage-most : (bytes : List ℕ) → pageOf bytes .rules .n * pageOf bytes .rules .voltage .0 ≤ 60000

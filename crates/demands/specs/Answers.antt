@@ -63,13 +63,13 @@ module _ (p : Pack) (s : Sample) where
 
 -- The same for a switch command.
 module _ (p : Pack) (c : ℕ) where
-  pub command-accepted-exactly : (commanded p c .verdict ≡ Accepted) ↔ NoFault (commandRefusals (p .rules .n) c)
+  pub command-accepted-exactly : (commanded p c .verdict ≡ Accepted) ↔ NoFault (commandRefusals c)
   unfolding commanded commandVerdict commandRefusals
-  command-accepted-exactly = none-exactly Refused Accepted refused-not refused-one 16 (commandRefusals (p .rules .n) c) refl
+  command-accepted-exactly = none-exactly Refused Accepted refused-not refused-one 16 (commandRefusals c) refl
 
-  pub command-refused-exactly : (k w : ℕ) → (commanded p c .verdict ≡ Refused k w) ↔ Lowest (commandRefusals (p .rules .n) c) k w
+  pub command-refused-exactly : (k w : ℕ) → (commanded p c .verdict ≡ Refused k w) ↔ Lowest (commandRefusals c) k w
   unfolding commanded commandVerdict commandRefusals
-  command-refused-exactly = refuse-exactly Refused Accepted refused-not refused-one 16 (commandRefusals (p .rules .n) c) refl
+  command-refused-exactly = refuse-exactly Refused Accepted refused-not refused-one 16 (commandRefusals c) refl
 
   pub refused-command-untouched : (k w : ℕ) → commanded p c .verdict ≡ Refused k w → commanded p c .pack ≡ p
   unfolding commanded

@@ -74,7 +74,7 @@ pub demand-1-sample : (p : Pack) (s : Sample) → IsAnswered (offered p s .verdi
 demand-1-sample p s = is-answered _ _ (answers.sample-accepted-exactly p s) (answers.sample-refused-exactly p s)
 
 -- A switch command: accepted, or refused by row 16.
-pub demand-1-command : (p : Pack) (c : ℕ) → IsAnswered (commanded p c .verdict) (commandRefusals (p .rules .n) c)
+pub demand-1-command : (p : Pack) (c : ℕ) → IsAnswered (commanded p c .verdict) (commandRefusals c)
 demand-1-command p c = is-answered _ _ (answers.command-accepted-exactly p c) (answers.command-refused-exactly p c)
 
 -- A command on the bus, with a buffer of any length: sent, or refused by rows 12 to 15.
@@ -104,11 +104,11 @@ pub demand-1-sample-refused : (p : Pack) (s : Sample) (k w : ℕ)
 demand-1-sample-refused = answers.sample-refused-exactly
 
 -- A switch command.
-pub demand-1-command-accepted : (p : Pack) (c : ℕ) → (commanded p c .verdict ≡ Accepted) ↔ NoFault (commandRefusals (p .rules .n) c)
+pub demand-1-command-accepted : (p : Pack) (c : ℕ) → (commanded p c .verdict ≡ Accepted) ↔ NoFault (commandRefusals c)
 demand-1-command-accepted = answers.command-accepted-exactly
 
 pub demand-1-command-refused : (p : Pack) (c k w : ℕ)
-    → (commanded p c .verdict ≡ Refused k w) ↔ Lowest (commandRefusals (p .rules .n) c) k w
+    → (commanded p c .verdict ≡ Refused k w) ↔ Lowest (commandRefusals c) k w
 demand-1-command-refused = answers.command-refused-exactly
 
 -- A command on the bus.

@@ -103,7 +103,7 @@ module _ (bytes : List ℕ) (es : List Event) (s : Sample) where
 -- A command is no sample.
 pub samples-command : (bytes : List ℕ) (es : List Event) (c : ℕ) → samples bytes (command c ∷ es) ≡ samples bytes es
 unfolding pastOf withEvent
-samples-command bytes es c = either (accepts (commandVerdict (pageOf bytes .rules .n) c))
+samples-command bytes es c = either (accepts (commandVerdict c))
   where
     either : (taken : Bool) → cond taken (past (samples bytes es) c) (pastAfter bytes es) .history ≡ samples bytes es
     either true = refl

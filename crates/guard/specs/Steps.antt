@@ -8,7 +8,7 @@ use native.Mathlib.Omega.{arith}
 use lib.IntN.{ℤ, pos}
 use lib.ListN.{length, getD, set}
 use Rattle.laws.specs.Latest.{lastAll}
-use Rattle.laws.specs.Each.{eachTo, each-next, each-above, each-below}
+use Rattle.laws.specs.Each.{eachTo, each-next, each-below}
 use Rattle.protections.specs.declared.Direction.{Direction}
 use Rattle.protections.specs.declared.Limits.{Limits}
 use Rattle.protections.specs.declared.Row.{Row}
@@ -107,11 +107,6 @@ AllWithin ps = (p : ℕ) → p < protections → Within (getD ps p noProtection)
 
 -- ---- what the loop over the protections needs
 
--- The entry that is stepped next is as it was.
-pub within-next : (e : Extremes) (s : Sample) (ps out : List Protection) (i : ℕ) → out ≡ eachTo noProtection (stepWith e s) i ps
-    → AllWithin ps → i < protections → Within (getD out i noProtection)
-within-next e s ps out i q w h = rw (q, each-above noProtection (stepWith e s) i ps i (omega arith)) (w i h)
-
 -- One more protection at the load.
 pub clear-next : (ls : List Limits) (l out : List Protection) (i : ℕ) (r : Protection) → out ≡ eachTo noProtection (clearAt ls) i l
     → r ≡ clear (limitsAt ls i) → set out i r ≡ eachTo noProtection (clearAt ls) (i + 1) l
@@ -145,18 +140,24 @@ module _ (row : Row) (l : Limits) (g : GoodLimits (row .direction) l) where
   pub never-at-once : (s : Sample) → trips row l s ≡ true → qualifies row l s ≡ false
   never-at-once s = never-both (row .direction) (l .trip) (l .release) (measure (row .quantity) s) (g .ordered)
 
+  n-byte : l .n ≤ 255
+  n-byte = let h = g .n-most in omega arith
+
+  m-byte : l .m ≤ 255
+  m-byte = let h = g .m-most in omega arith
+
   -- One step on from what a history says is what the longer history says.
   pub protection-step : (s : Sample) (h : List Sample)
       → stepOne (row .direction) (measure (row .quantity) s) (protectionOf row l h) ≡ protectionOf row l (s ∷ h)
   unfolding stepOne protectionOf
   protection-step s h =
       ap (λ (a : Alarm). record { limits = l; alarm = a })
-      (runs.alarm-step (l .n) (l .m) (trips row l) (qualifies row l) (g .n-least) (g .m-least) never-at-once s h)
+      (runs.alarm-step (l .n) (l .m) (trips row l) (qualifies row l) (g .n-least) n-byte (g .m-least) m-byte never-at-once s h)
 
   -- Its run stays below N or M, however long the history is.
   pub protection-within : (h : List Sample) → Within (protectionOf row l h)
   unfolding protectionOf
-  protection-within h = runs.alarm-within (l .n) (l .m) (trips row l) (qualifies row l) (g .n-least) (g .m-least) never-at-once h
+  protection-within h = runs.alarm-within (l .n) (l .m) (trips row l) (qualifies row l) (g .n-least) n-byte (g .m-least) m-byte never-at-once h
 
   -- So it is below 240, and fits its byte.
   pub protection-run : (h : List Sample) → runs.runOf (protectionOf row l h .alarm) < 240
@@ -170,7 +171,7 @@ module _ (row : Row) (l : Limits) (g : GoodLimits (row .direction) l) where
   unfolding raised protectionOf
   between-ends s h b =
       let e = between-neither (row .direction) (l .trip) (l .release) (measure (row .quantity) s) b in
-      runs.neither-ends (l .n) (l .m) (trips row l) (qualifies row l) (g .n-least) (g .m-least) never-at-once s h (e .0) (e .1)
+      runs.neither-ends (l .n) (l .m) (trips row l) (qualifies row l) (g .n-least) n-byte (g .m-least) m-byte never-at-once s h (e .0) (e .1)
 
 pub protection-raised : (row : Row) (l : Limits) (h : List Sample) → runs.isRaised (protectionOf row l h .alarm) ≡ raised row l h
 unfolding protectionOf raised

@@ -2,7 +2,6 @@
 -- Assumes nothing.
 use mathlib.Core.Bool.{Bool, true, false, cond}
 use mathlib.Core.List.{List, [], _∷_}
-use mathlib.Core.Path.{_≡_}
 use Prim.Native.Nat.{ℕ, _+_, _-_, _%_}
 use lib.Dec.{ltb}
 use lib.ListN.{length, replicate}
@@ -11,14 +10,14 @@ use Rattle.guard.specs.declared.rule.Protection.{Protection}
 use Rattle.sample.specs.Cells.{extremesOf}
 use Rattle.sample.specs.None.{noSample}
 use Rattle.sample.specs.declared.Extremes.{Extremes}
-use Rattle.guard.specs.Steps.{protectionsOf, stepAll, AllWithin}
+use Rattle.guard.specs.Steps.{protectionsOf, stepAll}
 use Rattle.guard_raised.specs.Words.{someRaised, anyRaised}
 use Rattle.page_settings.specs.declared.Rules.{Rules}
 use Rattle.page_settings.specs.declared.Settings.{Settings}
 use Rattle.bleed_wants.specs.Wants.{isCharging}
 use Rattle.bleed_wants.specs.Steps.{wishes, wantingWord}
 use Rattle.bleed.specs.Resting.Steps.{nextCell, nextRuns, restingWord}
-use Rattle.bleed.specs.Walk.Steps.{chosenWord, CellOf}
+use Rattle.bleed.specs.Walk.Steps.{chosenWord}
 use Rattle.bleed.specs.Walk.History.{bleds, resting, startCell}
 use Rattle.bleed_wants.specs.Word.{wordTo}
 use Rattle.bleed.specs.Walk.Balance.{runsOf, bledWord}
@@ -106,10 +105,10 @@ unfoldable pub nextBalance : Rules → ℕ → Balance → Balance
 nextBalance r want b =
     record {
       begun = b .start;
-      rested = restingWord (r .n) (r .r) (b .runs);
-      bled = chosenWord (r .n) (r .k) want (restingWord (r .n) (r .r) (b .runs)) (b .start .0);
+      rested = restingWord (r .n) (r .r) (b .bled) (b .runs);
+      bled = chosenWord (r .n) (r .k) want (restingWord (r .n) (r .r) (b .bled) (b .runs)) (b .start .0);
       start = record { 0 = nextCell (r .n) (b .start .0) };
-      runs = nextRuns (chosenWord (r .n) (r .k) want (restingWord (r .n) (r .r) (b .runs)) (b .start .0)) (b .runs);
+      runs = nextRuns (chosenWord (r .n) (r .k) want (restingWord (r .n) (r .r) (b .bled) (b .runs)) (b .start .0)) (b .runs);
     }
 
 -- The word of the cells that want bleeding at a sample whose highest and lowest cell are e, by the protections after it.
@@ -119,13 +118,6 @@ wantWith e r s ps =
 
 abbrev pub wantAt : Rules → Sample → List Protection → ℕ
 wantAt r s ps = wantWith (extremesOf (s .cells) (s .count)) r s ps
-
--- What the step takes as given: every run is below its N or M, the start cell is a cell of the pack, and nobody rests where nobody was
--- bled at the latest sample.
-pub record Ready (p : Pack) : Type 0 where
-  pub runs : AllWithin (p .protections)
-  pub start : CellOf (p .rules .n) (p .balance .start .0)
-  pub idle : p .balance .bled ≡ 0 → restingWord (p .rules .n) (p .rules .r) (p .balance .runs) ≡ 0
 
 -- The pack after an accepted sample, of which `s` is kept.
 unfoldable pub acceptedPack : Pack → Sample → Pack
