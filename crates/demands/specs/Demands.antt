@@ -55,8 +55,9 @@ use Rattle.demands.specs.Answers as answers
 use Rattle.demands.specs.Answers.{IsAnswered, IsReplied, is-answered, is-replied}
 use Rattle.demands.specs.BledWords.{bledWords, words-fair, words-run, words-apart, words-few}
 use Rattle.demands.specs.History.{says, story, line-told, replay-says}
-use Rattle.demands.specs.Shown as shown
-use Rattle.demands.specs.Shown.{shown, shownWords, samples, wanted, MayBeOn, shown-is, shown-words, word-1, word-2, word-3}
+use Rattle.demands.specs.Shown.{shown, shownWords, samples, wanted, MayBeOn, word-1, word-2, word-3}
+use Rattle.demands.specs.Shown.{shown-is, shown-balance, shown-words, shown-each, raise-when, release-when, on-exactly, raised-stops}
+use Rattle.demands.specs.Shown.{clear-at-load, command-raises-none}
 use Rattle.demands.specs.TooFew.{waiting, too-few}
 use Rattle.demands.specs.TwoCells.{two-suffice}
 use Rattle.demands.specs.Written.{pageFor}
@@ -175,11 +176,11 @@ module _ (bytes : List ℕ) (es : List Event) where
 
   -- balance choices;
   pub demand-2-balance : shown bytes es .balance ≡ bledAfter (pageOf bytes) (samples bytes es)
-  demand-2-balance = shown.shown-balance bytes es
+  demand-2-balance = shown-balance bytes es
 
   -- while any protection is raised, whatever its mask, nothing is bled.
   pub demand-2-raised-stops : (shown bytes es .raised ≡ 0 → ⊥) → shown bytes es .balance ≡ 0
-  demand-2-raised-stops = shown.raised-stops bytes es
+  demand-2-raised-stops = raised-stops bytes es
 
   -- Status words: the word of every command on the bus, battery status (0x16), mode (0x41) and 0x45 among them.
   pub demand-2-word : (c : ℕ) → sentWord (saidOf (after bytes es)) (rowOf c) ≡ wordAfter (pageOf bytes) (pastAfter bytes es) c
@@ -201,7 +202,7 @@ module _ (bytes : List ℕ) (es : List Event) where
     pub demand-2-raised : hasBit (shown bytes es .raised) p ≡ false
         → hasBit (shown bytes (offer s ∷ es) .raised) p
         ≡ lastAll (wordAt bytes (18 + 5 * p)) (trips (rowAt p) (limitsAt bytes p)) (samples bytes (offer s ∷ es))
-    demand-2-raised = shown.raise-when bytes es s taken p inside
+    demand-2-raised = raise-when bytes es s taken p inside
 
     -- ---- "a raised one released exactly when its last M all qualify."
 
@@ -209,20 +210,20 @@ module _ (bytes : List ℕ) (es : List Event) where
     pub demand-2-released : hasBit (shown bytes es .raised) p ≡ true
         → hasBit (shown bytes (offer s ∷ es) .raised) p
         ≡ not (lastAll (wordAt bytes (19 + 5 * p)) (qualifies (rowAt p) (limitsAt bytes p)) (samples bytes (offer s ∷ es)))
-    demand-2-released = shown.release-when bytes es s taken p inside
+    demand-2-released = release-when bytes es s taken p inside
 
   -- At the load all are clear, and neither a refused sample (`demand-1-sample-untouched`) nor a command raises or releases one.
   pub demand-2-clear-at-load : shown bytes [] .raised ≡ 0
-  demand-2-clear-at-load = shown.clear-at-load bytes
+  demand-2-clear-at-load = clear-at-load bytes
 
   pub demand-2-command-raises-none : (c : ℕ) → shown bytes (command c ∷ es) .raised ≡ shown bytes es .raised
-  demand-2-command-raises-none = shown.command-raises-none bytes es
+  demand-2-command-raises-none = command-raises-none bytes es
 
   -- ---- "A commanded switch is on exactly when a sample has been accepted and no raised protection blocks it."
 
   -- Switch 0, charge, is bit 0 of the fets field, and switch 1, discharge, bit 1.
   pub demand-2-switch : (switch : ℕ) → switch < 2 → (hasBit (shown bytes es .fets) switch ≡ true) ↔ MayBeOn bytes es switch
-  demand-2-switch = shown.on-exactly bytes es
+  demand-2-switch = on-exactly bytes es
 
 -- The lines of the replay under an accepted page: the header, and of each line what document 01 says of it behind the lines before it.
 pub demand-2-replay : (bytes log : List ℕ) → afterLoad bytes .verdict ≡ Accepted
@@ -246,7 +247,7 @@ Suffice n m =
 -- One balance is shown for each accepted sample, and the wishes are one for each sample.
 pub demand-3-each : (bytes : List ℕ) (es : List Event)
     → (length (shownWords bytes es) ≡ length (samples bytes es)) × (length (wanted bytes es) ≡ length (samples bytes es))
-demand-3-each bytes es = (shown.shown-each bytes es, wishes-length (pageOf bytes) (samples bytes es))
+demand-3-each bytes es = (shown-each bytes es, wishes-length (pageOf bytes) (samples bytes es))
 
 page-good : (bytes : List ℕ) → judged bytes ≡ Accepted → Good (pageOf bytes)
 page-good bytes taken = rw (page-accepted bytes taken) (accepted-good bytes taken)
