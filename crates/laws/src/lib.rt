@@ -1,5 +1,7 @@
-// Laws with no battery in them, which the other crates share (specs/), and the two ways in which code meets a word's bits.
+// Laws with no battery in them, which the other crates share (specs/), the two ways in which code meets a word's bits, and a byte as a
+// wider number.
 ghost use mathlib.Core.Path.{_≡_};
+ghost use Prim.Native.Nat.{_≤_};
 ghost use Rattle.laws.specs.Bits.{hasBit, withBitIf};
 
 // Whether bit i of w is set; a word has no bit past its sixteenth.
@@ -22,4 +24,11 @@ pub fn with_bit_if(w: u16, i: u8, on: bool) -> u16
         }
     }
     w
+}
+
+// A byte as a wider number, of which it is still known that it is a byte.
+pub fn wide(b: u8) -> u32
+    ensures { λ r. ⌜ (r ≡ b) × (r ≤ 255) ⌝ }
+{
+    b as u32
 }
