@@ -9,7 +9,7 @@ use Rattle.log_lines.specs.Lines.{linesOf, nextLine}
 use Rattle.log_lines.specs.Carrying.{carriedOf, movedDown}
 use Rattle.log_lines.specs.Walking.{whole}
 use Rattle.log_lines.specs.Output.{output, answers}
-use Rattle.log_lines.specs.Chunk.{turns, turned}
+use Rattle.log_lines.specs.Chunk.{answerLines, reached}
 use Rattle.log_lines.specs.declared.NextLine.the-variants.{Ends, Unfinished}
 
 -- an empty log has no line, one newline is one empty line
@@ -55,7 +55,7 @@ unfolding output answers linesOf
 told = refl
 
 -- with room for three bytes one of the two whole lines is answered
-pub chunk : (turns count tell 2 3 (turned 0 [] 0) (whole (65 ∷ 10 ∷ 10 ∷ 66 ∷ [])) ≡ turned 2 (0 ∷ 10 ∷ []) 1)
-    × (turns count tell 2 4 (turned 0 [] 0) (whole (65 ∷ 10 ∷ 10 ∷ 66 ∷ [])) ≡ turned 3 (0 ∷ 10 ∷ 1 ∷ 10 ∷ []) 2)
-unfolding turns whole
+pub chunk : (answerLines count tell 2 3 (reached 0 [] 0) (whole (65 ∷ 10 ∷ 10 ∷ 66 ∷ [])) ≡ reached 2 (0 ∷ 10 ∷ []) 1)
+    × (answerLines count tell 2 4 (reached 0 [] 0) (whole (65 ∷ 10 ∷ 10 ∷ 66 ∷ [])) ≡ reached 3 (0 ∷ 10 ∷ 1 ∷ 10 ∷ []) 2)
+unfolding answerLines whole
 chunk = (refl, refl)
