@@ -21,7 +21,7 @@ use Rattle.log_entries.specs.declared.Kind.the-variants.{Offer, Command, Malfor
 use Rattle.log_entries.specs.declared.Entry.{Entry}
 use Rattle.log_entries.specs.Entry.{entryOf}
 use Rattle.log_answers.specs.declared.Told.the-variants as told
-use Rattle.log_answers.specs.Turns.{toldBy, answeredAs, turnedBy, turnOf}
+use Rattle.log_answers.specs.Tell.{toldOf, answeredAs, outcomeOf, tell}
 
 -- ---- an answer
 
@@ -78,16 +78,16 @@ module _ (p : Pack) (c : ℕ) where
 -- ---- lines
 
 -- A refused line leaves the pack as it was.
-pub refused-line-untouched : (p : Pack) (line : List ℕ) (k : ℕ) → turnOf p line .told ≡ told.Refused k → turnOf p line .pack ≡ p
-unfolding turnOf turnedBy
+pub refused-line-untouched : (p : Pack) (line : List ℕ) (k : ℕ) → tell p line .told ≡ told.Refused k → tell p line .pack ≡ p
+unfolding tell outcomeOf
 refused-line-untouched p line k = by-kind (entryOf line .kind) (entryOf line)
   where
-    told-refused : (v : Verdict) (q : Pack) → toldBy v q ≡ told.Refused k → ((j w : ℕ) → v ≡ Refused j w → q ≡ p) → q ≡ p
+    told-refused : (v : Verdict) (q : Pack) → toldOf v q ≡ told.Refused k → ((j w : ℕ) → v ≡ Refused j w → q ≡ p) → q ≡ p
     told-refused Accepted q e kept = absurd (let z : true ≡ false = cc in true≢false z)
     told-refused (Refused j w) q e kept = kept j w refl
 
-    by-kind : (kind : Kind) (e : Entry) → turnedBy (answeredAs kind p e) .told ≡ told.Refused k
-        → turnedBy (answeredAs kind p e) .pack ≡ p
+    by-kind : (kind : Kind) (e : Entry) → outcomeOf kind (answeredAs kind p e) .told ≡ told.Refused k
+        → outcomeOf kind (answeredAs kind p e) .pack ≡ p
     by-kind Offer e t = told-refused _ _ t (refused-sample-untouched p (e .sample))
     by-kind Command e t = told-refused _ _ t (refused-command-untouched p (e .command))
     by-kind Malformed e t = refl

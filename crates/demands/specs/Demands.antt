@@ -1,5 +1,5 @@
 -- THE THREE DEMANDS: the user's sentences, one after the other, and under each the theorem that says it. They speak of what the public
--- calls answer and show: `judged` of a page; `offered`, `commanded` and `repliedTo` of a pack; `turnOf` of a line; and `shown`, which is
+-- calls answer and show: `judged` of a page; `offered`, `commanded` and `repliedTo` of a pack; `tell` of a line; and `shown`, which is
 -- what `decide` shows after a load of any bytes and any calls since, refused ones among them. Lists have the latest first.
 -- Assumes nothing.
 use mathlib.Core.Path.{_≡_, ap, _∙_}
@@ -47,14 +47,15 @@ use Rattle.bus.specs.Demands as bus
 use Rattle.log_entries.specs.Entry.{entryOf}
 use Rattle.log_lines.specs.Lines.{linesOf}
 use Rattle.log_answers.specs.declared.Told.the-variants as told
-use Rattle.log_answers.specs.Turns.{turnOf}
+use Rattle.log_answers.specs.Says.{says, line-told}
+use Rattle.log_answers.specs.Tell.{tell}
 use Rattle.log_answers.specs.Seventeen.{isSeventeen, isMalformed, seventeen-exactly}
 use Rattle.log_texts.specs.Texts.{headerText}
 use Rattle.log.specs.Replay.{replayed}
 use Rattle.demands.specs.Answers as answers
 use Rattle.demands.specs.Answers.{IsAnswered, IsReplied, is-answered, is-replied}
 use Rattle.demands.specs.BledWords.{bledWords, words-fair, words-run, words-apart, words-few}
-use Rattle.demands.specs.History.{says, story, line-told, replay-says}
+use Rattle.demands.specs.History.{story, replay-says}
 use Rattle.demands.specs.Shown.{shown, shownWords, samples, wanted, MayBeOn, word-1, word-2, word-3}
 use Rattle.demands.specs.Shown.{shown-is, shown-balance, shown-words, shown-each, raise-when, release-when, on-exactly, raised-stops}
 use Rattle.demands.specs.Shown.{clear-at-load, command-raises-none}
@@ -84,7 +85,7 @@ unfolding repliedTo
 demand-1-reply p c room = is-replied _ _ (bus.sent-exactly (p .rules .n) (p .sampled) c room) (bus.refused-exactly (p .rules .n) (p .sampled) c room)
 
 -- A line of the log behind any events: 17, or what document 01 says of its sample or its command (`says`).
-pub demand-1-line : (bytes : List ℕ) (es : List Event) (line : List ℕ) → turnOf (after bytes es) line .told ≡ says bytes es line
+pub demand-1-line : (bytes : List ℕ) (es : List Event) (line : List ℕ) → tell (after bytes es) line .told ≡ says bytes es line
 demand-1-line = line-told
 
 -- ---- "Each refusal in document 01 is given exactly when its row says and no lower number applies."
@@ -124,7 +125,7 @@ unfolding repliedTo
 demand-1-reply-refused p = bus.refused-exactly (p .rules .n) (p .sampled)
 
 -- A line of the log: 17 exactly if it is malformed, in any pack.
-pub demand-1-line-malformed : (p : Pack) (line : List ℕ) → isSeventeen (turnOf p line .told) ≡ isMalformed (entryOf line .kind)
+pub demand-1-line-malformed : (p : Pack) (line : List ℕ) → isSeventeen (tell p line .told) ≡ isMalformed (entryOf line .kind)
 demand-1-line-malformed = seventeen-exactly
 
 -- ---- "It leaves the pack state and every lent buffer untouched."
@@ -135,7 +136,7 @@ demand-1-sample-untouched = answers.refused-sample-untouched
 pub demand-1-command-untouched : (p : Pack) (c k w : ℕ) → commanded p c .verdict ≡ Refused k w → commanded p c .pack ≡ p
 demand-1-command-untouched = answers.refused-command-untouched
 
-pub demand-1-line-untouched : (p : Pack) (line : List ℕ) (k : ℕ) → turnOf p line .told ≡ told.Refused k → turnOf p line .pack ≡ p
+pub demand-1-line-untouched : (p : Pack) (line : List ℕ) (k : ℕ) → tell p line .told ≡ told.Refused k → tell p line .pack ≡ p
 demand-1-line-untouched = answers.refused-line-untouched
 
 -- The reply buffer, of any length. Pages, lines and the pack of a reply are lent to be read only.

@@ -1,6 +1,7 @@
 // Laws with no battery in them, which the other crates share (specs/), the two ways in which code meets a word's
-// bits, and a run of samples, counted.
+// bits, a run of samples, counted, and a byte as a wider number.
 ghost use mathlib.Core.Path.{_≡_};
+ghost use Prim.Native.Nat.{_≤_};
 ghost use Rattle.laws.specs.Bits.{hasBit, withBitIf};
 ghost use Rattle.laws.specs.Latest.{nextRun};
 
@@ -37,4 +38,11 @@ pub fn next_run(counts: bool, run: u8) -> u8
         return run;
     }
     0
+}
+
+// A byte as a wider number, of which it is still known that it is a byte.
+pub fn wide(b: u8) -> u32
+    ensures { λ r. ⌜ (r ≡ b) × (r ≤ 255) ⌝ }
+{
+    b as u32
 }

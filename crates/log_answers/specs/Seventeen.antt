@@ -18,7 +18,7 @@ use Rattle.log_entries.specs.declared.Entry.{Entry}
 use Rattle.log_entries.specs.Entry.{entryOf}
 use Rattle.log_answers.specs.declared.Told.{Told}
 use Rattle.log_answers.specs.declared.Told.the-variants.{Decided, Refused}
-use Rattle.log_answers.specs.Turns.{toldBy, answeredAs, turnedBy, turnOf}
+use Rattle.log_answers.specs.Tell.{toldOf, answeredAs, outcomeOf, tell}
 
 -- Whether a line was refused with 17.
 abbrev pub isSeventeen : Told → Bool
@@ -31,7 +31,7 @@ isMalformed Offer = false
 isMalformed Command = false
 isMalformed Malformed = true
 
-sample-never : (n : ℕ) (s : Sample) (p : Pack) → isSeventeen (toldBy (sampleVerdict n s) p) ≡ false
+sample-never : (n : ℕ) (s : Sample) (p : Pack) → isSeventeen (toldOf (sampleVerdict n s) p) ≡ false
 unfolding sampleVerdict sampleRefusals
 sample-never n s p =
     by-test (exactCount n (s .count))
@@ -41,17 +41,17 @@ sample-never n s p =
     (λ b. rw b)))
     (λ a. rw a)
 
-command-never : (c : ℕ) (p : Pack) → isSeventeen (toldBy (commandVerdict c) p) ≡ false
+command-never : (c : ℕ) (p : Pack) → isSeventeen (toldOf (commandVerdict c) p) ≡ false
 unfolding commandVerdict commandRefusals
 command-never c p = by-test (leb c 3) (λ a. rw a) (λ a. rw a)
 
-by-kind : (k : Kind) (p : Pack) (e : Entry) → isSeventeen (turnedBy (answeredAs k p e) .told) ≡ isMalformed k
-unfolding turnedBy offered commanded
+by-kind : (k : Kind) (p : Pack) (e : Entry) → isSeventeen (outcomeOf k (answeredAs k p e) .told) ≡ isMalformed k
+unfolding outcomeOf offered commanded
 by-kind Offer p e = sample-never (p .rules .n) (e .sample) _
 by-kind Command p e = command-never (e .command) _
 by-kind Malformed p e = refl
 
 -- For every pack and every sequence of bytes.
-pub seventeen-exactly : (p : Pack) (line : List ℕ) → isSeventeen (turnOf p line .told) ≡ isMalformed (entryOf line .kind)
-unfolding turnOf
+pub seventeen-exactly : (p : Pack) (line : List ℕ) → isSeventeen (tell p line .told) ≡ isMalformed (entryOf line .kind)
+unfolding tell
 seventeen-exactly p line = by-kind (entryOf line .kind) p (entryOf line)

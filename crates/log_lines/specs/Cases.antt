@@ -9,8 +9,8 @@ use Rattle.log_lines.specs.Lines.{linesOf, nextLine}
 use Rattle.log_lines.specs.Carrying.{carriedOf, movedDown}
 use Rattle.log_lines.specs.Walking.{whole}
 use Rattle.log_lines.specs.Output.{output, answers}
-use Rattle.log_lines.specs.Chunk.{turns, turned}
-use Rattle.log_lines.specs.declared.NextLine.the-variants.{Ends, Unfinished, Overlong}
+use Rattle.log_lines.specs.Chunk.{answerLines, reached}
+use Rattle.log_lines.specs.declared.NextLine.the-variants.{Ends, Unfinished}
 
 -- an empty log has no line, one newline is one empty line
 pub few : (linesOf [] ≡ []) × (linesOf (10 ∷ []) ≡ [] ∷ [])
@@ -28,10 +28,10 @@ pub next : (nextLine (65 ∷ 10 ∷ 66 ∷ []) 0 ≡ Ends 1 2) × (nextLine (65 
 unfolding nextLine before
 next = (refl, refl, refl)
 
--- 128 bytes may still become a line, 129 may not
-pub long : (nextLine (replicate 128 65) 0 ≡ Unfinished) × (nextLine (replicate 129 65) 0 ≡ Overlong) × (nextLine (replicate 129 65 ++ (10 ∷ [])) 0 ≡ Ends 129 130)
+-- however long it is, a line ends at its newline
+pub long : (nextLine (replicate 129 65) 0 ≡ Unfinished) × (nextLine (replicate 129 65 ++ (10 ∷ [])) 0 ≡ Ends 129 130)
 unfolding nextLine before
-long = (refl, refl, refl)
+long = (refl, refl)
 
 -- 129 bytes are carried on of a line that did not end, and all where lines wait
 pub carries : (carriedOf true 128 ≡ 128) × (carriedOf true 129 ≡ 129) × (carriedOf true 500 ≡ 129) × (carriedOf false 500 ≡ 500)
@@ -55,7 +55,7 @@ unfolding output answers linesOf
 told = refl
 
 -- with room for three bytes one of the two whole lines is answered
-pub chunk : (turns count tell 2 3 (turned 0 [] 0) (whole (65 ∷ 10 ∷ 10 ∷ 66 ∷ [])) ≡ turned 2 (0 ∷ 10 ∷ []) 1)
-    × (turns count tell 2 4 (turned 0 [] 0) (whole (65 ∷ 10 ∷ 10 ∷ 66 ∷ [])) ≡ turned 3 (0 ∷ 10 ∷ 1 ∷ 10 ∷ []) 2)
-unfolding turns whole
+pub chunk : (answerLines count tell 2 3 (reached 0 [] 0) (whole (65 ∷ 10 ∷ 10 ∷ 66 ∷ [])) ≡ reached 2 (0 ∷ 10 ∷ []) 1)
+    × (answerLines count tell 2 4 (reached 0 [] 0) (whole (65 ∷ 10 ∷ 10 ∷ 66 ∷ [])) ≡ reached 3 (0 ∷ 10 ∷ 1 ∷ 10 ∷ []) 2)
+unfolding answerLines whole
 chunk = (refl, refl)

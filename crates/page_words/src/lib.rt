@@ -1,10 +1,10 @@
 // The words of the settings page one by one: reading them, the ranges that they have, the levels that they stand for.
 ghost use mathlib.Core.Path.{_≡_};
-ghost use Prim.Native.Nat.{_≤_};
 ghost use lib.ListN.{getD};
 ghost use Rattle.units.specs.Signed.{signedOf};
 ghost use Rattle.protections.specs.Direction.{inOrder};
 ghost use Rattle.page_words.specs.Ranges.{wordAt, within, degreesFit, levelFits, levelOf};
+use laws::wide;
 use protections::Direction;
 use protections::Quantity;
 use units::signed_of;
@@ -19,13 +19,6 @@ pub fn byte_at(page: &[u8], at: usize) -> u8
     0
 }
 
-// A byte as a wider number, of which it is still known that it is a byte.
-fn wide(b: u8) -> u16
-    ensures { λ r. ⌜ (r ≡ b) × (r ≤ 255) ⌝ }
-{
-    b as u16
-}
-
 // Word i of the page, low byte first; past the end of the page it reads as 0.
 pub fn word(page: &[u8], i: u8) -> u16
     ensures { λ r. ⌜ r ≡ wordAt (now (page .entry)) i ⌝ }
@@ -33,7 +26,7 @@ pub fn word(page: &[u8], i: u8) -> u16
     let at = 2 * (i as usize);
     let low = byte_at(page, at);
     let high = byte_at(page, at + 1);
-    wide(low) + 256 * wide(high)
+    (wide(low) + 256 * wide(high)) as u16
 }
 
 // Whether a value is one of low..high.

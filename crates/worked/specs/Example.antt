@@ -35,7 +35,7 @@ use Rattle.pack_shown.specs.Shown as shown-shown
 use Rattle.pack.specs.Answers as pack-answers
 use Rattle.pack_state.specs.State as state-state
 use Rattle.log_entries.specs.Entry as entries-entry
-use Rattle.log_answers.specs.Turns as telling-turns
+use Rattle.log_answers.specs.Tell as log-answers-tell
 use Rattle.log_texts.specs.Texts as answers-texts
 use Rattle.log.specs.Replay as log-replay
 
@@ -74,6 +74,6 @@ unfolding laws-bits.hasBit laws-bits.withBitIf laws-each.eachTo units-signed.sig
     shown-shown.decisionOf state-state.nextTick state-state.freshBalance state-state.nextBalance state-state.wantWith
     state-state.acceptedPack state-state.freshPack pack-answers.offered pack-answers.withCommand pack-answers.commanded
     entries-entry.commandOf entries-entry.cellsFrom entries-entry.secondOf entries-entry.firstOf entries-entry.sampleOf
-    entries-entry.fieldsSay entries-entry.entryOf telling-turns.turnedBy telling-turns.turnOf answers-texts.lineOf answers-texts.headerText
+    entries-entry.fieldsSay entries-entry.entryOf log-answers-tell.outcomeOf log-answers-tell.tell answers-texts.lineOf answers-texts.headerText
     answers-texts.pageText answers-texts.decisionText answers-texts.refusedText log-replay.replayed
 example = refl

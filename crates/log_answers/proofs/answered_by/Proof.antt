@@ -1,4 +1,4 @@
--- `telling::answered_by` meets its contract. Assumes nothing.
+-- `log_answers::answered_by` meets its contract. Assumes nothing.
 use borrow.Author.Needs.{needs}
 use Rattle.log_answers.proofs.answered_by.Statement.{statement}
 use Rattle.log_answers.proofs.answered_by.Tie as tie

@@ -28,6 +28,9 @@ mul-result c = search needs
 add-result : tie.Need-add-result
 add-result c = search needs
 
+cast-result : tie.Need-cast-result
+cast-result c = search needs
+
 returns : tie.Need-returns
 unfolding wordAt
 returns c = rw (c .before .wide .ensures .0, c .wide2 .ensures .0, c .before .before .before .byte-at .ensures, c .before .before .byte-at2 .ensures)
@@ -44,4 +47,5 @@ word-spec =
     wide-requires-2
     mul-result
     add-result
+    cast-result
     returns)

@@ -1,4 +1,4 @@
--- `ends::begin` meets its contract. Assumes nothing.
+-- `log::ends::begin` meets its contract. Assumes nothing.
 use mathlib.Core.Path.{ap}
 use Rattle.pack.specs.declared.Answered.{Answered}
 use borrow.Author.Needs.{needs}

@@ -1,7 +1,7 @@
 -- What a line of the log is answered with, and the pack behind it: document 01, "The replay program" and "Refusal numbers".
 -- Assumes nothing.
 use Prim.Native.Nat.{ℕ, _<_}
-use mathlib.Core.Path.{_≡_, ap}
+use mathlib.Core.Path.{_≡_, refl, ap}
 use mathlib.Core.List.{List}
 use lib.ListN.{length}
 use Rattle.refusals.specs.declared.Verdict.{Verdict}
@@ -18,18 +18,18 @@ use Rattle.log_entries.specs.Entry.{entryOf}
 use Rattle.log_entries.specs.Reading.{overlong}
 use Rattle.log_answers.specs.declared.Told.{Told}
 use Rattle.log_answers.specs.declared.Told.the-variants.{Decided, Refused}
-use Rattle.log_answers.specs.declared.Turned.{Turned}
+use Rattle.log_answers.specs.declared.Outcome.{Outcome}
 
-abbrev pub turned : Told → Pack → Turned
-turned t p = record { told = t; pack = p }
+abbrev pub outcome : Kind → Told → Pack → Outcome
+outcome k t p = record { kind = k; told = t; pack = p }
 
 -- An accepted sample or command gives the decision of the pack behind it. "A refused line gives `refused` and the number."
-abbrev pub toldBy : Verdict → Pack → Told
-toldBy verdict.Accepted p = Decided (decisionOf p)
-toldBy (verdict.Refused number word) p = Refused number
+abbrev pub toldOf : Verdict → Pack → Told
+toldOf verdict.Accepted p = Decided (decisionOf p)
+toldOf (verdict.Refused number word) p = Refused number
 
-unfoldable pub turnedBy : Answered → Turned
-turnedBy a = turned (toldBy (a .verdict) (a .pack)) (a .pack)
+unfoldable pub outcomeOf : Kind → Answered → Outcome
+outcomeOf k a = outcome k (toldOf (a .verdict) (a .pack)) (a .pack)
 
 -- "A malformed line is no sample and no command: it gives 17, whatever other row seems to fit."
 abbrev pub answeredAs : Kind → Pack → Entry → Answered
@@ -38,16 +38,21 @@ answeredAs Command p e = commanded p (e .command)
 answeredAs Malformed p e = answered (verdict.Refused 17 0) p
 
 -- What a line does to a pack.
-unfoldable pub turnOf : Pack → List ℕ → Turned
-turnOf p line = turnedBy (answeredAs (entryOf line .kind) p (entryOf line))
+unfoldable pub tell : Pack → List ℕ → Outcome
+tell p line = outcomeOf (entryOf line .kind) (answeredAs (entryOf line .kind) p (entryOf line))
+
+-- The kind of a line is told by its bytes alone: a sample was accepted exactly where it is `Offer` and the answer a decision.
+pub tell-kind : (p : Pack) (line : List ℕ) → tell p line .kind ≡ entryOf line .kind
+unfolding tell outcomeOf
+tell-kind p line = refl
 
 -- All lines over 128 bytes do the same.
-pub turn-overlong : (p : Pack) (line : List ℕ) → 128 < length line → turnOf p line ≡ turned (Refused 17) p
-unfolding turnOf turnedBy
-turn-overlong p line h = ap (λ (e : Entry). turnedBy (answeredAs (e .kind) p e)) (overlong line h)
+pub tell-overlong : (p : Pack) (line : List ℕ) → 128 < length line → tell p line ≡ outcome Malformed (Refused 17) p
+unfolding tell outcomeOf
+tell-overlong p line h = ap (λ (e : Entry). outcomeOf (e .kind) (answeredAs (e .kind) p e)) (overlong line h)
 
 -- The line was read as e, and the pack's answer a was told as r.
-pub turn-made : (p : Pack) (line : List ℕ) (e : Entry) (a : Answered) (r : Turned) → e ≡ entryOf line → a ≡ answeredAs (e .kind) p e
-    → r ≡ turnedBy a → Kept (a .pack) → (r ≡ turnOf p line) × Kept (r .pack)
-unfolding turnOf turnedBy
-turn-made p line e a r ee ea er kept = (rw (← ee, ← ea) er, rw er kept)
+pub tell-made : (p : Pack) (line : List ℕ) (e : Entry) (a : Answered) (r : Outcome) → e ≡ entryOf line → a ≡ answeredAs (e .kind) p e
+    → r ≡ outcomeOf (e .kind) a → Kept (a .pack) → (r ≡ tell p line) × Kept (r .pack)
+unfolding tell outcomeOf
+tell-made p line e a r ee ea er kept = (rw (← ee, ← ea) er, rw er kept)
