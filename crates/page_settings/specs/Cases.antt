@@ -4,18 +4,21 @@ use mathlib.Core.Path.{_≡_, refl}
 use mathlib.Core.List.{List, [], _∷_}
 use Prim.Native.Nat.{ℕ}
 use lib.IntN.{ℤ, pos, negsuc}
+use Rattle.laws.specs.Numbered.{listOf, listFrom}
 use Rattle.units.specs.Signed.{signedOf}
 use Rattle.crc.specs.CheckByte.{timesX, timesXs, withByte, remainder, checkByte}
 use Rattle.protections.specs.Table.{rowAt, table}
 use Rattle.protections.specs.declared.Limits.{Limits}
 use Rattle.protections.specs.declared.Quantity.the-variants.{HighestCell, LowestCell, Current, Temperature1, Temperature2}
 use Rattle.page_words.specs.Ranges.{wordAt, within, degreesFit, levelFits, levelOf}
+use Rattle.page_faults.specs.Kinds.{kindOf}
+use Rattle.page_faults.specs.Met.{levelMet, orderMet, onRow, kindMeets, meets}
 use Rattle.page_judge.specs.Page.{refusals, judged}
 use Rattle.page_judge.specs.Worked.{workedPage, minus}
 use Rattle.refusals.specs.declared.Verdict.the-variants.{Accepted, Refused}
 use Rattle.page_settings.specs.declared.Rules.{Rules}
 use Rattle.page_settings.specs.declared.Settings.{Settings}
-use Rattle.page_settings.specs.Settings.{inDegrees, sampleLevel, limitsAt, limitsOf, rulesOf, settingsOf, noSettings, loadedOf}
+use Rattle.page_settings.specs.Settings.{inDegrees, sampleLevel, limitsFrom, limitsOf, rulesOf, settingsOf, noSettings, loadedOf}
 
 -- ---- levels
 
@@ -70,11 +73,11 @@ worked =
     }
 
 pub worked-loaded : loadedOf workedPage ≡ record { verdict = Accepted; settings = worked }
-unfolding loadedOf settingsOf rulesOf limitsOf limitsAt sampleLevel inDegrees levelOf signedOf judged refusals wordAt within degreesFit
+unfolding loadedOf settingsOf rulesOf limitsOf limitsFrom sampleLevel inDegrees levelOf signedOf judged refusals meets kindOf kindMeets onRow levelMet orderMet listOf listFrom wordAt within degreesFit
     levelFits rowAt table checkByte remainder withByte timesXs timesX
 worked-loaded = refl
 
 -- A refused page says nothing.
 none-loaded : loadedOf [] ≡ record { verdict = Refused 1 0; settings = noSettings }
-unfolding loadedOf settingsOf rulesOf judged refusals wordAt within degreesFit levelFits levelOf signedOf rowAt table checkByte remainder
+unfolding loadedOf settingsOf rulesOf judged refusals meets kindOf kindMeets onRow levelMet orderMet listOf listFrom wordAt within degreesFit levelFits levelOf signedOf rowAt table checkByte remainder
 none-loaded = refl

@@ -9,14 +9,16 @@ use borrow.Author.Tests.{eqb-true, eq-eqb}
 use lib.Dec.{eqb}
 use lib.ListN.{length, getD, take, set, length-set}
 use lib.Seq.{getD-set-same, getD-set-other, take-set-le}
+use Rattle.laws.specs.Numbered.{listFrom}
 use Rattle.laws.specs.Tests.{and-left, and-right}
 use Rattle.units.specs.Signed.{signedOf}
 use Rattle.crc.specs.CheckByte.{timesX, timesXs, withByte, remainder, checkByte}
 use Rattle.protections.specs.Table.{rowAt, table}
 use Rattle.page_words.specs.Ranges.{wordAt, within, degreesFit, levelFits, levelOf}
 use Rattle.page_judge.specs.Page.{refusals, judged}
-use Rattle.page_faults.specs.Met.{reservedMet, rangeMet, wordOfMet, levelMet, orderedAt, orderMet, met}
-use Rattle.page_judge.specs.Walk.{lowestFrom, lowestFault, faultsOf, judged-is}
+use Rattle.page_faults.specs.Kinds.{shortLayout, kindOf}
+use Rattle.page_faults.specs.Met.{levelMet, orderMet, onRow, kindMeets, meets}
+use Rattle.page_judge.specs.Walk.{lowestWord, faultsOf, judged-is}
 use Rattle.page_judge.specs.Swapped.{swapped}
 use Rattle.page_judge.specs.Worked.{workedPage, put, minus, Change, changed, sealed, pageWith}
 use Rattle.refusals.specs.declared.Verdict.{Verdict}
@@ -66,7 +68,7 @@ allJudged [] = true
 allJudged (c ∷ cs) = agree (judged (c .bytes)) (c .verdict) && allJudged cs
 
 pages-judged : allJudged pages ≡ true
-unfolding pages judged refusals wordAt within degreesFit levelFits levelOf signedOf rowAt table checkByte remainder withByte timesXs timesX
+unfolding pages judged refusals meets kindOf kindMeets onRow levelMet orderMet listFrom wordAt within degreesFit levelFits levelOf signedOf rowAt table checkByte remainder withByte timesXs timesX
 pages-judged = refl
 
 -- ---- words of the worked page changed, and its check byte made to fit
@@ -146,7 +148,7 @@ sealed-mark : (b : List ℕ) (x : ℕ) → wordAt (set b 127 x) 0 ≡ wordAt b 0
 unfolding wordAt
 sealed-mark b x = rw (getD-set-other b 127 0 x 0 (λ e. omega arith), getD-set-other b 127 1 x 0 (λ e. omega arith))
 
-sealed-judged : (b : List ℕ) → length b ≡ 128 → wordAt b 0 ≡ 0x17A4 → judged (sealed b) ≡ faultsOf (sealed b)
+sealed-judged : (b : List ℕ) → length b ≡ 128 → wordAt b 0 ≡ 0x17A4 → judged (sealed b) ≡ faultsOf shortLayout (sealed b)
 sealed-judged b h m =
     let x = checkByte (take 127 b) in
     let size : length (set b 127 x) ≡ 128 = length-set b 127 x ∙ h in
@@ -157,14 +159,14 @@ sealed-judged b h m =
 abbrev fits : Case → Bool
 fits c =
     let b = changed workedPage (c .changes) in
-    eqb (length b) 128 && (eqb (wordAt b 0) 0x17A4 && agree (faultsOf (sealed b)) (c .verdict))
+    eqb (length b) 128 && (eqb (wordAt b 0) 0x17A4 && agree (faultsOf shortLayout (sealed b)) (c .verdict))
 
 abbrev allFit : List Case → Bool
 allFit [] = true
 allFit (c ∷ cs) = fits c && allFit cs
 
 cases-fit : allFit cases ≡ true
-unfolding cases faultsOf lowestFault lowestFrom met reservedMet rangeMet levelMet wordOfMet orderMet orderedAt wordAt within degreesFit
+unfolding cases faultsOf lowestWord meets kindOf kindMeets onRow levelMet orderMet listFrom wordAt within degreesFit
     levelFits levelOf signedOf rowAt table
 cases-fit = refl
 
@@ -175,11 +177,11 @@ AllJudged (c ∷ cs) = (judged (pageWith (c .changes)) ≡ c .verdict) × AllJud
 fit-judged : (c : Case) → fits c ≡ true → judged (pageWith (c .changes)) ≡ c .verdict
 fit-judged c e =
     let b = changed workedPage (c .changes) in
-    let rest = and-right (eqb (length b) 128) (eqb (wordAt b 0) 0x17A4 && agree (faultsOf (sealed b)) (c .verdict)) e in
-    let h = eqb-true (length b) 128 (and-left (eqb (length b) 128) (eqb (wordAt b 0) 0x17A4 && agree (faultsOf (sealed b)) (c .verdict)) e) in
-    let m = eqb-true (wordAt b 0) 0x17A4 (and-left (eqb (wordAt b 0) 0x17A4) (agree (faultsOf (sealed b)) (c .verdict)) rest) in
+    let rest = and-right (eqb (length b) 128) (eqb (wordAt b 0) 0x17A4 && agree (faultsOf shortLayout (sealed b)) (c .verdict)) e in
+    let h = eqb-true (length b) 128 (and-left (eqb (length b) 128) (eqb (wordAt b 0) 0x17A4 && agree (faultsOf shortLayout (sealed b)) (c .verdict)) e) in
+    let m = eqb-true (wordAt b 0) 0x17A4 (and-left (eqb (wordAt b 0) 0x17A4) (agree (faultsOf shortLayout (sealed b)) (c .verdict)) rest) in
     sealed-judged b h m
-    ∙ agree-same (faultsOf (sealed b)) (c .verdict) (and-right (eqb (wordAt b 0) 0x17A4) (agree (faultsOf (sealed b)) (c .verdict)) rest)
+    ∙ agree-same (faultsOf shortLayout (sealed b)) (c .verdict) (and-right (eqb (wordAt b 0) 0x17A4) (agree (faultsOf shortLayout (sealed b)) (c .verdict)) rest)
 
 all-judged : (cs : List Case) → allFit cs ≡ true → AllJudged cs
 all-judged [] e = tt
