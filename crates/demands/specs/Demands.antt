@@ -20,7 +20,7 @@ use Rattle.page_words.specs.Ranges.{wordAt}
 use Rattle.page_judge.specs.Page.{refusals, judged}
 use Rattle.page_judge.specs.Exactly as page
 use Rattle.page_judge.specs.Swapped.{swapped, swapped-refused}
-use Rattle.page_settings.specs.Settings.{limitsAt}
+use Rattle.page_settings.specs.Settings.{limitsFrom}
 use Rattle.page_settings.specs.Good.{Good, accepted-good}
 use Rattle.sample.specs.declared.Sample.{Sample}
 use Rattle.sample.specs.Measure.{trips, qualifies}
@@ -202,7 +202,7 @@ module _ (bytes : List ℕ) (es : List Event) where
     -- At one more accepted sample, the latest of the last N. N is word 18 + 5p of the page.
     pub demand-2-raised : hasBit (shown bytes es .raised) p ≡ false
         → hasBit (shown bytes (offer s ∷ es) .raised) p
-        ≡ lastAll (wordAt bytes (18 + 5 * p)) (trips (rowAt p) (limitsAt bytes p)) (samples bytes (offer s ∷ es))
+        ≡ lastAll (wordAt bytes (18 + 5 * p)) (trips (rowAt p) (limitsFrom bytes p)) (samples bytes (offer s ∷ es))
     demand-2-raised = raise-when bytes es s taken p inside
 
     -- ---- "a raised one released exactly when its last M all qualify."
@@ -210,7 +210,7 @@ module _ (bytes : List ℕ) (es : List Event) where
     -- M is word 19 + 5p of the page.
     pub demand-2-released : hasBit (shown bytes es .raised) p ≡ true
         → hasBit (shown bytes (offer s ∷ es) .raised) p
-        ≡ not (lastAll (wordAt bytes (19 + 5 * p)) (qualifies (rowAt p) (limitsAt bytes p)) (samples bytes (offer s ∷ es)))
+        ≡ not (lastAll (wordAt bytes (19 + 5 * p)) (qualifies (rowAt p) (limitsFrom bytes p)) (samples bytes (offer s ∷ es)))
     demand-2-released = release-when bytes es s taken p inside
 
   -- At the load all are clear, and neither a refused sample (`demand-1-sample-untouched`) nor a command raises or releases one.

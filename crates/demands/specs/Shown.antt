@@ -21,11 +21,11 @@ use Rattle.refusals.specs.declared.Verdict.{Verdict}
 use Rattle.refusals.specs.declared.Verdict.the-variants.{Accepted, Refused}
 use Rattle.sample.specs.declared.Sample.{Sample}
 use Rattle.sample.specs.Measure.{trips, qualifies}
-use Rattle.guard.specs.Steps.{limitsAt, raised, raised-when, released-when}
+use Rattle.protections.specs.Limits.{limitsAt}
+use Rattle.guard.specs.Steps.{raised, raised-when, released-when}
 use Rattle.guard_raised.specs.Words.{bitsOf, anyOf, any-yes, any-bits, raisedAfter, raisedWord, someRaised, blocked, raisedWord-has}
 use Rattle.page_settings.specs.declared.Settings.{Settings}
-use Rattle.page_settings.specs.Settings as page
-use Rattle.page_settings.specs.Settings.{settingsOf, rulesOf, noSettings, loadedWith, loadedOf}
+use Rattle.page_settings.specs.Settings.{limitsFrom, settingsOf, rulesOf, noSettings, loadedWith, loadedOf}
 use Rattle.page_settings.specs.Good.{limits-at}
 use Rattle.bleed_wants.specs.Wants.{isCharging, wants}
 use Rattle.bleed_wants.specs.Steps.{wishes}
@@ -172,27 +172,27 @@ module _ (bytes : List ℕ) (taken : judged bytes ≡ Accepted) where
   word-3 = rw (page-accepted bytes taken)
 
   module _ (p : ℕ) (inside : p < protections) where
-    limits-are : limitsAt (pageOf bytes .limits) p ≡ page.limitsAt bytes p
+    limits-are : limitsAt (pageOf bytes .limits) p ≡ limitsFrom bytes p
     unfolding settingsOf
     limits-are = rw (page-accepted bytes taken) (limits-at bytes p inside)
 
     -- N, M and the mask of protection p are words 18 + 5p, 19 + 5p and 20 + 5p.
     word-n : limitsAt (pageOf bytes .limits) p .n ≡ wordAt bytes (18 + 5 * p)
-    unfolding page.limitsAt
+    unfolding limitsFrom
     word-n = ap (λ (l : Limits). l .n) limits-are ∙ ap (wordAt bytes) (omega arith)
 
     word-m : limitsAt (pageOf bytes .limits) p .m ≡ wordAt bytes (19 + 5 * p)
-    unfolding page.limitsAt
+    unfolding limitsFrom
     word-m = ap (λ (l : Limits). l .m) limits-are ∙ ap (wordAt bytes) (omega arith)
 
     word-mask : limitsAt (pageOf bytes .limits) p .mask ≡ wordAt bytes (20 + 5 * p)
-    unfolding page.limitsAt
+    unfolding limitsFrom
     word-mask = ap (λ (l : Limits). l .mask) limits-are ∙ ap (wordAt bytes) (omega arith)
 
-    tripping : trips (rowAt p) (limitsAt (pageOf bytes .limits) p) ≡ trips (rowAt p) (page.limitsAt bytes p)
+    tripping : trips (rowAt p) (limitsAt (pageOf bytes .limits) p) ≡ trips (rowAt p) (limitsFrom bytes p)
     tripping = ap (λ (l : Limits). trips (rowAt p) l) limits-are
 
-    qualifying : qualifies (rowAt p) (limitsAt (pageOf bytes .limits) p) ≡ qualifies (rowAt p) (page.limitsAt bytes p)
+    qualifying : qualifies (rowAt p) (limitsAt (pageOf bytes .limits) p) ≡ qualifies (rowAt p) (limitsFrom bytes p)
     qualifying = ap (λ (l : Limits). qualifies (rowAt p) l) limits-are
 
 -- ---- protections
@@ -234,7 +234,7 @@ module _ (bytes : List ℕ) (es : List Event) (s : Sample) (taken : offered (aft
 
   -- A clear one is raised at an accepted sample exactly if its last N all trip, this one included.
   pub raise-when : hasBit (shown bytes es .raised) p ≡ false
-      → hasBit (shown bytes (offer s ∷ es) .raised) p ≡ lastAll (wordAt bytes (18 + 5 * p)) (trips (rowAt p) (page.limitsAt bytes p)) latest
+      → hasBit (shown bytes (offer s ∷ es) .raised) p ≡ lastAll (wordAt bytes (18 + 5 * p)) (trips (rowAt p) (limitsFrom bytes p)) latest
   raise-when e =
       now
       ∙ raised-when (rowAt p) l (trimmed s) (samples bytes es) (sym (raised-bit bytes es p inside) ∙ e)
@@ -244,7 +244,7 @@ module _ (bytes : List ℕ) (es : List Event) (s : Sample) (taken : offered (aft
   -- A raised one is released exactly if its last M all qualify.
   pub release-when : hasBit (shown bytes es .raised) p ≡ true
       → hasBit (shown bytes (offer s ∷ es) .raised) p
-      ≡ not (lastAll (wordAt bytes (19 + 5 * p)) (qualifies (rowAt p) (page.limitsAt bytes p)) latest)
+      ≡ not (lastAll (wordAt bytes (19 + 5 * p)) (qualifies (rowAt p) (limitsFrom bytes p)) latest)
   release-when e =
       now
       ∙ released-when (rowAt p) l (trimmed s) (samples bytes es) (sym (raised-bit bytes es p inside) ∙ e)

@@ -12,9 +12,11 @@ use Rattle.units.specs.Signed.{signedOf}
 use Rattle.crc.specs.CheckByte.{timesX, timesXs, withByte, remainder, checkByte}
 use Rattle.protections.specs.Table.{rowAt, table}
 use Rattle.page_words.specs.Ranges.{wordAt, within, degreesFit, levelFits, levelOf}
+use Rattle.page_faults.specs.Kinds.{kindOf}
+use Rattle.page_faults.specs.Met.{levelMet, orderMet, onRow, kindMeets, meets}
 use Rattle.page_judge.specs.Page.{refusals, judged}
 use Rattle.page_judge.specs.Worked.{pageWith, put}
-use Rattle.page_settings.specs.Settings.{inDegrees, sampleLevel, limitsAt, limitsOf, rulesOf, settingsOf, noSettings, loadedOf}
+use Rattle.page_settings.specs.Settings.{inDegrees, sampleLevel, limitsFrom, limitsOf, rulesOf, settingsOf, noSettings, loadedOf}
 use Rattle.sample.specs.Cases as sample
 use Rattle.sample.specs.Cells.{bestOf, extremesOf}
 use Rattle.sample.specs.Measure.{measure}
@@ -23,10 +25,11 @@ use Rattle.guard_raised.specs.Words.{bitsOf, anyOf, raisedBits, anyRaised, bloc
 use Rattle.bleed_wants.specs.Wants.{wants}
 use Rattle.bleed_wants.specs.Word.{inWord, wordTo}
 use Rattle.bleed_wants.specs.Steps.{tenAtMost, cellOf, wishes, wantingWord}
-use Rattle.bleed.specs.Resting.Steps.{nextCell, nextRun, nextRuns, runOf, rested, restingWord}
+use Rattle.laws.specs.Latest.{nextRun}
+use Rattle.bleed.specs.Resting.Steps.{nextCell, nextRuns, runOf, rested, restingWord}
 use Rattle.bleed.specs.Walk.Walk.{has, upFrom}
-use Rattle.bleed.specs.Walk.Steps.{chosenWord}
-use Rattle.pack_refusals.specs.Samples.{cellsFit, sampleRefusals, sampleVerdict, commandRefusals, commandVerdict, keptCell, trimmed}
+use Rattle.bleed.specs.Walk.Steps.{isCell, chosenWord}
+use Rattle.pack_refusals.specs.Samples.{cellsFit, exactCount, sampleRefusals, sampleVerdict, commandRefusals, commandVerdict, keptCell, trimmed}
 use Rattle.pack_state.specs.State.{wishAt, wishesOf, freshPack, freshBalance, nextTick, nextBalance, wantWith, acceptedPack}
 use Rattle.pack.specs.Events.{Event, offer, withEvent, pastOf}
 use Rattle.pack.specs.Answers.{offered, withCommand, commanded}
@@ -51,11 +54,11 @@ pageFor n = pageWith (put 1 n ∷ put 2 1 ∷ put 3 1 ∷ [])
 
 -- All that a case computes with, from a page's bytes and events to what is shown: `unfolding computed` opens each of them.
 unfoldable pub computed : Unit {0}
-unfolding anyOf loadedOf settingsOf rulesOf limitsOf limitsAt sampleLevel inDegrees levelOf signedOf judged refusals wordAt within degreesFit
+unfolding anyOf loadedOf settingsOf rulesOf limitsOf limitsFrom sampleLevel inDegrees levelOf signedOf judged refusals meets kindOf kindMeets onRow levelMet orderMet wordAt within degreesFit
     levelFits rowAt table checkByte remainder withByte timesXs timesX afterLoad freshPack freshBalance offered commanded withCommand
     acceptedPack nextBalance wantWith nextTick decisionOf switchesOf modeOf modeOrder firstMode sampleVerdict sampleRefusals
-    commandVerdict commandRefusals cellsFit trimmed keptCell protectionsOf protectionOf stepAllWith stepWith stepOne listOf listFrom
+    commandVerdict commandRefusals cellsFit exactCount trimmed keptCell protectionsOf protectionOf stepAllWith stepWith stepOne listOf listFrom
     eachTo extremesOf bestOf raisedBits anyRaised blocksAny blocksOne bitsOf hasBit withBit withBitIf wants inWord wordTo tenAtMost
-    cellOf runOf wishes wantingWord rested restingWord nextCell nextRun nextRuns chosenWord noSettings wishesOf wishAt someRaised raised
+    cellOf runOf wishes wantingWord rested restingWord nextCell nextRun nextRuns isCell chosenWord noSettings wishesOf wishAt someRaised raised
     measure withEvent pastOf
 computed = tt

@@ -3,16 +3,17 @@
 use mathlib.Core.Path.{_≡_, refl, ap, _∙_}
 use mathlib.Core.Bool.{Bool, true, false, not}
 use mathlib.Core.List.{List, [], _∷_}
-use Prim.Native.Nat.{ℕ, _+_, _≤_, _<_}
+use Prim.Native.Nat.{ℕ, _+_, _<_}
 use native.Mathlib.Omega.{arith}
-use lib.IntN.{ℤ, pos}
+use lib.IntN.{ℤ}
 use lib.ListN.{length, getD, set}
 use Rattle.laws.specs.Latest.{lastAll}
 use Rattle.laws.specs.Each.{eachTo, each-next, each-below}
 use Rattle.protections.specs.declared.Direction.{Direction}
 use Rattle.protections.specs.declared.Limits.{Limits}
 use Rattle.protections.specs.declared.Row.{Row}
-use Rattle.protections.specs.Direction.{reaches, back, inOrder, never-both}
+use Rattle.protections.specs.Direction.{reaches, back, never-both}
+use Rattle.protections.specs.Limits.{noLimits, limitsAt, GoodLimits, AllGood}
 use Rattle.protections.specs.Table.{rowAt, protections}
 use Rattle.sample.specs.declared.Sample.{Sample}
 use Rattle.sample.specs.declared.Extremes.{Extremes}
@@ -25,15 +26,8 @@ use Rattle.laws.specs.Numbered.{listOf, listOf-length, listOf-at, each-listOf}
 use Rattle.guard.specs.Runs as runs
 use Rattle.guard.specs.Runs.{nextAlarm, RunWithin}
 
-abbrev pub noLimits : Limits
-noLimits = record { trip = pos 0; release = pos 0; n = 0; m = 0; mask = 0 }
-
 abbrev pub noProtection : Protection
 noProtection = record { limits = noLimits; alarm = Clear 0 }
-
--- What the page says of protection p.
-abbrev pub limitsAt : List Limits → ℕ → Limits
-limitsAt ls p = getD ls p noLimits
 
 -- ---- from the history
 
@@ -118,20 +112,6 @@ pub step-all-is : (e : Extremes) (s : Sample) (ps out : List Protection) (i : �
     → out ≡ eachTo noProtection (stepWith e s) i ps → out ≡ stepAllWith e s ps
 unfolding stepAllWith
 step-all-is e s ps out i n q = rw (← n) q
-
--- ---- what an accepted page says of its limits
-
--- N and M are 1..240, the mask is 0..3, trip and release stand in the order of the direction.
-pub record GoodLimits (d : Direction) (l : Limits) : Type 0 where
-  pub n-least : 1 ≤ l .n
-  pub n-most : l .n ≤ 240
-  pub m-least : 1 ≤ l .m
-  pub m-most : l .m ≤ 240
-  pub mask-most : l .mask ≤ 3
-  pub ordered : inOrder d (l .trip) (l .release) ≡ true
-
-abbrev pub AllGood : List Limits → Type 0
-AllGood ls = (p : ℕ) → p < protections → GoodLimits (rowAt p .direction) (limitsAt ls p)
 
 -- ---- one protection of good limits
 

@@ -1,11 +1,12 @@
 // The run rule of document 01: what raises a protection and what releases it.
 ghost use mathlib.Core.Path.{_≡_};
-ghost use Rattle.protections.specs.Direction.{reaches, back};
+ghost use Rattle.protections.specs.Direction.{reaches};
 ghost use Rattle.guard.specs.Runs.{nextAlarm};
 ghost use Rattle.guard.specs.Steps.{stepOne};
 use laws::next_run;
 use protections::Direction;
 use protections::Limits;
+use protections::back_of;
 
 // Clear, with its run of tripping samples; or raised, with its run of releasing samples.
 pub enum Alarm {
@@ -25,15 +26,6 @@ fn has_reached(d: Direction, level: i32, value: i32) -> bool
     match d {
         Direction::Above => level <= value,
         Direction::Below => value <= level,
-    }
-}
-
-fn opposite(d: Direction) -> Direction
-    ensures { λ r. ⌜ r ≡ back d ⌝ }
-{
-    match d {
-        Direction::Above => Direction::Below,
-        Direction::Below => Direction::Above,
     }
 }
 
@@ -68,7 +60,7 @@ pub fn step_one(d: Direction, value: i32, p: Protection) -> Protection
     let limits = p.limits;
     let a = p.alarm;
     let trips = has_reached(d, limits.trip, value);
-    let qualifies = has_reached(opposite(d), limits.release, value);
+    let qualifies = has_reached(back_of(d), limits.release, value);
     let next = next_alarm(limits.n, limits.m, trips, qualifies, a);
     Protection {
         limits: limits,

@@ -14,11 +14,12 @@ use borrow.Author.Tests.{ne-eqb}
 use Rattle.laws.specs.Tests.{by-test, clash, or-left, or-right}
 use Rattle.laws.specs.Bits.{hasBit, withBitIf, has-zero, has-same, has-other}
 use Rattle.protections.specs.declared.Limits.{Limits}
+use Rattle.protections.specs.Limits.{limitsAt}
 use Rattle.protections.specs.Table.{rowAt, protections}
 use Rattle.sample.specs.declared.Sample.{Sample}
 use Rattle.guard.specs.declared.rule.Protection.{Protection}
 use Rattle.guard.specs.Runs.{isRaised}
-use Rattle.guard.specs.Steps.{noProtection, limitsAt, raised, protectionsOf, protections-at, protection-raised, protection-limits}
+use Rattle.guard.specs.Steps.{noProtection, raised, protectionsOf, protections-at, protection-raised, protection-limits}
 
 -- Bit p for each p below n that the test picks.
 unfoldable pub bitsOf : (ℕ → Bool) → ℕ → ℕ
