@@ -1,4 +1,4 @@
--- `replies::reply` meets its contract. Assumes nothing.
+-- `bus::reply` meets its contract. Assumes nothing.
 use Rattle.bus.specs.Replies.{repliedTo, bytesAfter, sent-room}
 use mathlib.Core.Path.{sym, _∙_}
 use borrow.Author.Needs.{needs}
