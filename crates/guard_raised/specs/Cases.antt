@@ -8,6 +8,7 @@ use lib.IntN.{ℤ, pos}
 use Rattle.laws.specs.Bits.{hasBit, withBit, withBitIf}
 use Rattle.laws.specs.Each.{eachTo}
 use Rattle.laws.specs.Numbered.{listFrom, listOf}
+use Rattle.laws.specs.Words.{bitsOf, anyOf}
 use Rattle.laws.specs.Latest.{nextRun}
 use Rattle.protections.specs.declared.Limits.{Limits}
 use Rattle.protections.specs.Table.{rowAt, table}
@@ -18,7 +19,7 @@ use Rattle.sample.specs.Cases.{minus, sampled}
 use Rattle.guard.specs.declared.rule.Protection.{Protection}
 use Rattle.guard.specs.Cases.{limited}
 use Rattle.guard.specs.Steps.{raised, protectionOf, protectionsOf, protectionsAfter, stepOne, stepWith, stepAllWith}
-use Rattle.guard_raised.specs.Words.{bitsOf, anyOf, raisedBits, raisedWord, blocksOne, blocksAny, blocked}
+use Rattle.guard_raised.specs.Words.{raisedBits, raisedWord, blocksOne, blocksAny, blocked}
 
 -- Over voltage blocks charge after two samples, the second thermistor discharge after one, over charge current only reports.
 abbrev page : List Limits

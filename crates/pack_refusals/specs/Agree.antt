@@ -11,7 +11,8 @@ use borrow.Author.Tests.{ltb-true, ltb-false}
 use Rattle.laws.specs.Tests.{by-test}
 use Rattle.laws.specs.Each.{eachTo, each-length, each-below}
 use Rattle.units.specs.declared.MilliVolts.{MilliVolts}
-use Rattle.sample.specs.Cells.{noVolts, lookedAt}
+use Rattle.units.specs.Cells.{lookedAt}
+use Rattle.sample.specs.Cells.{noVolts}
 use Rattle.sample.specs.declared.Sample.{Sample}
 use Rattle.pack_refusals.specs.Samples.{cellsFit, sampleRefusals, sampleVerdict, keptCell, trimmed}
 

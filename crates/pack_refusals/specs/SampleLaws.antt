@@ -15,7 +15,8 @@ use Rattle.refusals.specs.Answers.{answerOf}
 use Rattle.refusals.specs.Refusals.{given, first-map}
 use Rattle.refusals.specs.declared.Verdict.{Verdict}
 use Rattle.refusals.specs.declared.Verdict.the-variants.{Accepted, Refused}
-use Rattle.sample.specs.Cells.{noVolts, lookedAt}
+use Rattle.units.specs.Cells.{lookedAt}
+use Rattle.sample.specs.Cells.{noVolts}
 use Rattle.sample.specs.declared.Sample.{Sample}
 use Rattle.pack_refusals.specs.Samples.{cellFits, cellsFit, sampleRefusals, sampleVerdict, temperaturesVerdict, commandRefusals, commandVerdict, exact-count}
 

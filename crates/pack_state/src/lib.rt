@@ -52,7 +52,7 @@ fn next_tick(t: u32) -> u32
 
 // The cells that want bleeding, by the protections after the sample.
 fn want_at(r: Rules, s: Sample, e: Extremes, ps: [Protection; PROTECTIONS]) -> u16
-    ensures { λ w. ⌜ w ≡ wantWith e r s ps ⌝ }
+    ensures { λ w. ⌜ w ≡ wantWith r s e ps ⌝ }
 {
     let charging = is_charging(r.detection, s.current);
     let raised = any_raised(ps);

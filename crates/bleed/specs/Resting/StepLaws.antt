@@ -43,6 +43,6 @@ runs-next bled i runs l b r e eb er =
     each-next 0 (λ j run. nextRun (hasBit bled j) run) i runs l r e (er ∙ ap (λ (x : Bool). nextRun x (getD l i 0)) eb)
 
 -- Cell i + 1 is entry i of the array.
-pub rested-at : (n R : ℕ) (runs : List ℕ) (i : ℕ) → ltb i n && leb R (getD runs i 0) ≡ leb (suc i) n && rested R runs (suc i)
+pub rested-at : (n R : ℕ) (runs : List ℕ) (i : ℕ) → ltb i n && leb R (getD runs i 0) ≡ ltb i n && rested R runs (suc i)
 unfolding rested runOf
 rested-at n R runs i = let e : suc i - 1 ≡ i = omega arith in rw e

@@ -9,7 +9,7 @@ use Rattle.laws.specs.Bits.{hasBit}
 use Rattle.laws.specs.Each.{eachTo}
 use Rattle.laws.specs.Latest.{nextRun}
 use Rattle.bleed_wants.specs.Word.{wordTo}
-use Rattle.bleed_wants.specs.Steps.{tenAtMost}
+use Rattle.units.specs.Cells.{lookedAt}
 
 -- The cell after k, from n to 1.
 unfoldable pub nextCell : ℕ → ℕ → ℕ
@@ -34,4 +34,4 @@ rested R runs k = leb R (runOf runs k)
 -- The word of the cells that rest, from the cells bled at the sample before and the run counters: nobody rests where nobody was bled.
 -- Who rests is defined from the history, `resting` in Walk/History; `resting-is` in Walk/Balance says that this word has just those.
 unfoldable pub restingWord : ℕ → ℕ → ℕ → List ℕ → ℕ
-restingWord n R bled runs = cond (eqb bled 0) 0 (wordTo (tenAtMost n) (rested R runs))
+restingWord n R bled runs = cond (eqb bled 0) 0 (wordTo (lookedAt n) (rested R runs))

@@ -20,7 +20,7 @@ use Rattle.laws.specs.Each.{each-length, each-below}
 use Rattle.laws.specs.Latest.{nextRun, run-goes-on, run, lastAll-run}
 use Rattle.bleed_wants.specs.Word.{inWord, wordTo, wordTo-same, wordTo-in}
 use Rattle.bleed_wants.specs.Steps.{wishes, wantingWord}
-use Rattle.bleed_wants.specs.StepLaws.{ten-is}
+use Rattle.units.specs.Cells.{looked-all}
 use Rattle.bleed.specs.Resting.Steps.{nextCell, nextRuns, runOf, rested, restingWord}
 use Rattle.bleed.specs.Resting.StepLaws.{runs-none, none-rest}
 use Rattle.bleed.specs.Walk.Walk.{has, upFrom, order}
@@ -55,7 +55,7 @@ pub wanting-shows : (n : ℕ) (charges raised : Bool) (floor difference lowest :
     → Shows n (wantingWord n charges raised floor difference lowest cells) (wishes charges raised floor difference lowest cells)
 unfolding wantingWord
 wanting-shows n charges raised floor difference lowest cells ten k a b =
-    rw (ten-is n ten) (wordTo-in n k (wishes charges raised floor difference lowest cells) (omega arith) a b)
+    rw (looked-all n ten) (wordTo-in n k (wishes charges raised floor difference lowest cells) (omega arith) a b)
 
 -- ---- the start cell
 
@@ -156,7 +156,7 @@ module _ (n K R : ℕ) where
         wordTo-same n _ _ (λ k a b. rested-is ws k a (omega arith)) in
         by-test (eqb (bledWord n K R ws) 0)
         (λ t. rw t (sym (ap (λ (l : List ℕ). wordTo n (rested R l)) (runs-idle some ten short ws (eqb-true (bledWord n K R ws) 0 t)) ∙ none-rest n R limited) ∙ by-counters))
-        (λ t. rw (t, ten-is n ten) by-counters)
+        (λ t. rw (t, looked-all n ten) by-counters)
 
     -- What is chosen from what was kept is what the history says.
     pub choose-is : (w : ℕ → Bool) (want : ℕ) → Shows n want w
