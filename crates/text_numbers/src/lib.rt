@@ -2,7 +2,7 @@
 ghost use mathlib.Core.Path.{_≡_};
 ghost use Prim.Native.Nat.{_-_, _≤_};
 ghost use lib.ListN.{length};
-ghost use Rattle.text_numbers.specs.Numbers.{digitsTo, numberTo, numberOf, minus};
+ghost use Rattle.text_numbers.specs.Numbers.{digitsTo, numberTo, numberOf, negative};
 ghost use Rattle.text_numbers.specs.Signs.{withSign, pastMinus};
 use laws::wide;
 
@@ -67,7 +67,7 @@ pub fn read_number(field: &[u8]) -> Number
 // Minus `v`, for `v` from 1 to 32768: -32768 is made without ever being negated.
 fn negative(v: u16) -> i16
     requires { ⌜ (1 ≤ v) × (v ≤ 32768) ⌝ }
-    ensures { λ r. ⌜ r ≡ minus v ⌝ }
+    ensures { λ r. ⌜ r ≡ negative v ⌝ }
 {
     -1 - ((v - 1) as i16)
 }

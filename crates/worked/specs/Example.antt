@@ -4,6 +4,7 @@
 use Prim.Native.Nat.{ℕ}
 use mathlib.Core.Path.{_≡_, refl}
 use mathlib.Core.List.{List, [], _∷_}
+use Rattle.text_fields.specs.Quoted.{quoted}
 use Rattle.log.specs.Replay.{replayed}
 use Rattle.laws.specs.Bits as laws-bits
 use Rattle.laws.specs.Each as laws-each
@@ -49,15 +50,15 @@ page = 164 ∷ 23 ∷ 2 ∷ 0 ∷ 1 ∷ 0 ∷ 4 ∷ 0 ∷ 60 ∷ 15 ∷ 10 ∷ 0
 
 -- `F 3`, and four `S` lines
 abbrev pub log : List ℕ
-log = 70 ∷ 9 ∷ 51 ∷ 10 ∷ 83 ∷ 9 ∷ 53 ∷ 48 ∷ 48 ∷ 9 ∷ 50 ∷ 57 ∷ 56 ∷ 48 ∷ 9 ∷ 50 ∷ 57 ∷ 56 ∷ 48 ∷ 9 ∷ 52 ∷ 48 ∷ 48 ∷ 48 ∷ 9 ∷ 52 ∷ 48 ∷ 50 ∷ 48 ∷ 10 ∷ 83 ∷ 9 ∷ 53 ∷ 48 ∷ 48 ∷ 9 ∷ 50 ∷ 57 ∷ 56 ∷ 48 ∷ 9 ∷ 50 ∷ 57 ∷ 56 ∷ 48 ∷ 9 ∷ 52 ∷ 50 ∷ 54 ∷ 48 ∷ 9 ∷ 52 ∷ 49 ∷ 48 ∷ 48 ∷ 10 ∷ 83 ∷ 9 ∷ 53 ∷ 48 ∷ 48 ∷ 9 ∷ 50 ∷ 57 ∷ 56 ∷ 48 ∷ 9 ∷ 50 ∷ 57 ∷ 56 ∷ 48 ∷ 9 ∷ 52 ∷ 50 ∷ 54 ∷ 48 ∷ 9 ∷ 52 ∷ 49 ∷ 48 ∷ 48 ∷ 10 ∷ 83 ∷ 9 ∷ 53 ∷ 48 ∷ 48 ∷ 9 ∷ 50 ∷ 57 ∷ 56 ∷ 48 ∷ 9 ∷ 50 ∷ 57 ∷ 56 ∷ 48 ∷ 9 ∷ 52 ∷ 49 ∷ 48 ∷ 48 ∷ 10 ∷ []
+log = quoted "F\t3\nS\t500\t2980\t2980\t4000\t4020\nS\t500\t2980\t2980\t4260\t4100\nS\t500\t2980\t2980\t4260\t4100\nS\t500\t2980\t2980\t4100\n"
 
 -- the header, four decisions, and `refused 9`
 abbrev pub written : List ℕ
-written = 116 ∷ 105 ∷ 99 ∷ 107 ∷ 9 ∷ 114 ∷ 97 ∷ 105 ∷ 115 ∷ 101 ∷ 100 ∷ 9 ∷ 102 ∷ 101 ∷ 116 ∷ 115 ∷ 9 ∷ 98 ∷ 97 ∷ 108 ∷ 97 ∷ 110 ∷ 99 ∷ 101 ∷ 9 ∷ 109 ∷ 111 ∷ 100 ∷ 101 ∷ 10 ∷ 48 ∷ 9 ∷ 48 ∷ 9 ∷ 48 ∷ 9 ∷ 48 ∷ 9 ∷ 48 ∷ 10 ∷ 49 ∷ 9 ∷ 48 ∷ 9 ∷ 51 ∷ 9 ∷ 50 ∷ 9 ∷ 51 ∷ 10 ∷ 50 ∷ 9 ∷ 48 ∷ 9 ∷ 51 ∷ 9 ∷ 49 ∷ 9 ∷ 51 ∷ 10 ∷ 51 ∷ 9 ∷ 49 ∷ 9 ∷ 50 ∷ 9 ∷ 48 ∷ 9 ∷ 50 ∷ 49 ∷ 10 ∷ 114 ∷ 101 ∷ 102 ∷ 117 ∷ 115 ∷ 101 ∷ 100 ∷ 9 ∷ 57 ∷ 10 ∷ []
+written = quoted "tick\traised\tfets\tbalance\tmode\n0\t0\t0\t0\t0\n1\t0\t3\t2\t3\n2\t0\t3\t1\t3\n3\t1\t2\t0\t21\nrefused\t9\n"
 
 -- `page 1 0` for a page of no bytes, whatever the log is
 abbrev pub pageLine : List ℕ
-pageLine = 112 ∷ 97 ∷ 103 ∷ 101 ∷ 9 ∷ 49 ∷ 9 ∷ 48 ∷ 10 ∷ []
+pageLine = quoted "page\t1\t0\n"
 
 pub example : replayed page log ∷ replayed [] log ∷ [] ≡ written ∷ pageLine ∷ []
 unfolding laws-bits.hasBit laws-bits.withBitIf laws-each.eachTo units-signed.signedOf protections-table.rowAt crc-checkbyte.timesX
@@ -79,6 +80,6 @@ unfolding laws-bits.hasBit laws-bits.withBitIf laws-each.eachTo units-signed.sig
     shown-shown.decisionOf state-state.nextTick state-state.freshBalance state-state.nextBalance state-state.wantWith
     state-state.acceptedPack state-state.freshPack pack-answers.offered pack-answers.withCommand pack-answers.commanded
     entries-entry.commandOf entries-entry.cellsFrom entries-entry.secondOf entries-entry.firstOf entries-entry.sampleOf
-    entries-entry.fieldsSay entries-entry.entryOf log-answers-tell.outcomeOf log-answers-tell.tell answers-texts.lineOf answers-texts.headerText
+    entries-entry.fieldsSay entries-entry.entryOf log-answers-tell.outcomeOf log-answers-tell.tell text-fields.lineOf answers-texts.headerText
     answers-texts.pageText answers-texts.decisionText answers-texts.refusedText log-replay.replayed
 example = refl
