@@ -15,7 +15,7 @@ use Rattle.page_words.specs.Ranges.{wordAt, within, degreesFit, levelFits, leve
 use Rattle.page_faults.specs.Kinds.{kindOf}
 use Rattle.page_faults.specs.Met.{levelMet, orderMet, onRow, kindMeets, meets}
 use Rattle.page_judge.specs.Page.{refusals, judged}
-use Rattle.page_judge.specs.Worked.{workedPage, unlikePage, minus}
+use Rattle.page_judge.specs.Worked.{workedPage, unlikePage, minusWord}
 use Rattle.refusals.specs.declared.Verdict.the-variants.{Accepted, Refused}
 use Rattle.page_settings.specs.declared.Rules.{Rules}
 use Rattle.page_settings.specs.declared.Settings.{Settings}
@@ -26,12 +26,12 @@ use Rattle.page_settings.specs.Settings.{inDegrees, sampleLevel, limitsF
 abbrev levels : List ℤ
 levels =
     sampleLevel Temperature1 25
-    ∷ sampleLevel Temperature2 (minus 40)
+    ∷ sampleLevel Temperature2 (minusWord 40)
     ∷ sampleLevel Temperature1 120
     ∷ sampleLevel HighestCell 4250
     ∷ sampleLevel LowestCell 2600
-    ∷ sampleLevel Current (minus 32768)
-    ∷ sampleLevel Current (minus 1)
+    ∷ sampleLevel Current (minusWord 32768)
+    ∷ sampleLevel Current (minusWord 1)
     ∷ []
 
 -- 25 °C is 2980, -40 °C is 2330, 120 °C is 3930; cells are mV as they stand, currents signed.

@@ -35,25 +35,25 @@ use Rattle.page_settings.specs.declared.Settings.{Settings}
 use Rattle.page_settings.specs.Settings.{inDegrees, sampleLevel, limitsFrom, limitsOf, rulesOf, settingsOf, loadedWith, loadedOf}
 
 -- A value in the range of word i of the page.
-abbrev pub Said : ℕ → ℕ → Type 0
-Said i x = Inside (frontKind i) x
+abbrev pub InRange : ℕ → ℕ → Type 0
+InRange i x = Inside (frontKind i) x
 
 -- The same, read as a signed number: it is no less than 0.
-pub record SaidSigned (i : ℕ) (z : ℤ) : Type 0 where
+pub record InRangeSigned (i : ℕ) (z : ℤ) : Type 0 where
   pub value : ℕ
   pub is : z ≡ pos value
-  pub said : Said i value
+  pub inside : InRange i value
 
 -- Each setting is in the range of its word, and the limits of each protection are good.
 pub record Good (s : Settings) : Type 0 where
-  pub n : Said 1 (s .rules .n)
-  pub k : Said 2 (s .rules .k)
-  pub r : Said 3 (s .rules .r)
-  pub floor : Said 4 (s .rules .floor .0)
-  pub difference : Said 5 (s .rules .difference .0)
-  pub detection : SaidSigned 6 (s .rules .detection)
-  pub voltage : Said 7 (s .rules .voltage .0)
-  pub current : SaidSigned 8 (s .rules .current)
+  pub n : InRange 1 (s .rules .n)
+  pub k : InRange 2 (s .rules .k)
+  pub r : InRange 3 (s .rules .r)
+  pub floor : InRange 4 (s .rules .floor .0)
+  pub difference : InRange 5 (s .rules .difference .0)
+  pub detection : InRangeSigned 6 (s .rules .detection)
+  pub voltage : InRange 7 (s .rules .voltage .0)
+  pub current : InRangeSigned 8 (s .rules .current)
   pub count : length (s .limits) ≡ protections
   pub each : AllGood (s .limits)
 
@@ -86,28 +86,30 @@ limits-at b p h = listOf-at (limitsFrom b) protections p noLimits h
 
 -- ---- degrees keep their order as tenths
 
-cold : (a : ℕ) → a ≤ 39 → pos 10 *ℤ negsuc a +ℤ pos 2730 ≡ pos (2720 - 10 * a)
-cold a h =
-    let e : 10 * suc a ≡ suc (10 * a + 9) = omega arith in
-    rw (e, le-ltb 2730 (suc (10 * a + 9)) (omega arith)) (ap pos (omega arith))
+-- Ten times a number of degrees, and an offset o that keeps it above 0.
+module _ (o : ℕ) (g : 400 ≤ o) where
+  cold : (a : ℕ) → a ≤ 39 → pos 10 *ℤ negsuc a +ℤ pos o ≡ pos (o - (10 * a + 10))
+  cold a h =
+      let e : 10 * suc a ≡ suc (10 * a + 9) = omega arith in
+      rw (e, le-ltb o (suc (10 * a + 9)) (omega arith)) (ap pos (omega arith))
 
-tenths-less : (a b : ℤ) → degreesFit a ≡ true → degreesFit b ≡ true → ltZ a b ≡ true
-    → ltZ (pos 10 *ℤ a +ℤ pos 2730) (pos 10 *ℤ b +ℤ pos 2730) ≡ true
-unfolding degreesFit
-tenths-less (pos a) (pos b) p q h = lt-ltb (10 * a + 2730) (10 * b + 2730) (let k = ltb-true a b h in omega arith)
-tenths-less (pos a) (negsuc b) p q h = absurd (true≢false (sym h))
-tenths-less (negsuc a) (pos b) p q h =
-    let u = leb-true a 39 (and-left (leZ (negsuc 39) (negsuc a)) (leZ (negsuc a) (pos 120)) p) in
-    rw (cold a u) (lt-ltb (2720 - 10 * a) (10 * b + 2730) (omega arith))
-tenths-less (negsuc a) (negsuc b) p q h =
-    let u = leb-true a 39 (and-left (leZ (negsuc 39) (negsuc a)) (leZ (negsuc a) (pos 120)) p) in
-    let v = leb-true b 39 (and-left (leZ (negsuc 39) (negsuc b)) (leZ (negsuc b) (pos 120)) q) in
-    rw (cold a u, cold b v) (lt-ltb (2720 - 10 * a) (2720 - 10 * b) (let k = ltb-true b a h in omega arith))
+  tenths-less : (a b : ℤ) → degreesFit a ≡ true → degreesFit b ≡ true → ltZ a b ≡ true
+      → ltZ (pos 10 *ℤ a +ℤ pos o) (pos 10 *ℤ b +ℤ pos o) ≡ true
+  unfolding degreesFit
+  tenths-less (pos a) (pos b) p q h = lt-ltb (10 * a + o) (10 * b + o) (let k = ltb-true a b h in omega arith)
+  tenths-less (pos a) (negsuc b) p q h = absurd (true≢false (sym h))
+  tenths-less (negsuc a) (pos b) p q h =
+      let u = leb-true a 39 (and-left (leZ (negsuc 39) (negsuc a)) (leZ (negsuc a) (pos 120)) p) in
+      rw (cold a u) (lt-ltb (o - (10 * a + 10)) (10 * b + o) (omega arith))
+  tenths-less (negsuc a) (negsuc b) p q h =
+      let u = leb-true a 39 (and-left (leZ (negsuc 39) (negsuc a)) (leZ (negsuc a) (pos 120)) p) in
+      let v = leb-true b 39 (and-left (leZ (negsuc 39) (negsuc b)) (leZ (negsuc b) (pos 120)) q) in
+      rw (cold a u, cold b v) (lt-ltb (o - (10 * a + 10)) (o - (10 * b + 10)) (let k = ltb-true b a h in omega arith))
 
-tenths-order : (d : Direction) (a b : ℤ) → degreesFit a ≡ true → degreesFit b ≡ true → inOrder d a b ≡ true
-    → inOrder d (pos 10 *ℤ a +ℤ pos 2730) (pos 10 *ℤ b +ℤ pos 2730) ≡ true
-tenths-order Above a b p q h = tenths-less b a q p h
-tenths-order Below a b p q h = tenths-less a b p q h
+  tenths-order : (d : Direction) (a b : ℤ) → degreesFit a ≡ true → degreesFit b ≡ true → inOrder d a b ≡ true
+      → inOrder d (pos 10 *ℤ a +ℤ pos o) (pos 10 *ℤ b +ℤ pos o) ≡ true
+  tenths-order Above a b p q h = tenths-less b a q p h
+  tenths-order Below a b p q h = tenths-less a b p q h
 
 -- Trip and release words in order stand for levels in order.
 level-order : (q : Quantity) (d : Direction) (x y : ℕ) → levelFits q x ≡ true → levelFits q y ≡ true
@@ -116,27 +118,27 @@ unfolding levelFits levelOf inDegrees sampleLevel
 level-order HighestCell d x y a b h = h
 level-order LowestCell d x y a b h = h
 level-order Current d x y a b h = h
-level-order Temperature1 d x y a b h = tenths-order d (signedOf x) (signedOf y) a b h
-level-order Temperature2 d x y a b h = tenths-order d (signedOf x) (signedOf y) a b h
+level-order Temperature1 d x y a b h = tenths-order _ (omega arith) d (signedOf x) (signedOf y) a b h
+level-order Temperature2 d x y a b h = tenths-order _ (omega arith) d (signedOf x) (signedOf y) a b h
 
-said-signed : (i x : ℕ) → Said i x → x ≤ 32767 → SaidSigned i (signedOf x)
+range-signed : (i x : ℕ) → InRange i x → x ≤ 32767 → InRangeSigned i (signedOf x)
 unfolding signedOf
-said-signed i x h g = record { value = x; is = rw (lt-ltb x 32768 (omega arith)); said = h }
+range-signed i x h g = record { value = x; is = rw (lt-ltb x 32768 (omega arith)); inside = h }
 
 -- The settings of an accepted page are good.
 pub accepted-good : (b : List ℕ) → judged b ≡ Accepted → Good (settingsOf b)
 unfolding settingsOf rulesOf limitsFrom
 accepted-good b e =
-    let at : (i : ℕ) → i < 16 → Said i (wordAt b i) = accepted-inside b e in
+    let at : (i : ℕ) → i < 16 → InRange i (wordAt b i) = accepted-inside b e in
     record {
       n = at 1 (omega arith);
       k = at 2 (omega arith);
       r = at 3 (omega arith);
       floor = at 4 (omega arith);
       difference = at 5 (omega arith);
-      detection = said-signed 6 (wordAt b 6) (at 6 (omega arith)) (at 6 (omega arith) .1);
+      detection = range-signed 6 (wordAt b 6) (at 6 (omega arith)) (at 6 (omega arith) .1);
       voltage = at 7 (omega arith);
-      current = said-signed 8 (wordAt b 8) (at 8 (omega arith)) (at 8 (omega arith) .1);
+      current = range-signed 8 (wordAt b 8) (at 8 (omega arith)) (at 8 (omega arith) .1);
       count = limits-count b;
       each = λ p h.
           let l : Limited b p = accepted-limits b e p h in

@@ -20,7 +20,7 @@ use Rattle.page_faults.specs.Kinds.{shortLayout, tripWord, kindOf}
 use Rattle.page_faults.specs.Met.{levelMet, orderMet, onRow, kindMeets, meets}
 use Rattle.page_judge.specs.Walk.{lowestWord, faultsOf, judged-is}
 use Rattle.page_judge.specs.Swapped.{swapped}
-use Rattle.page_judge.specs.Worked.{workedPage, put, minus, Change, changed, sealed, pageWith}
+use Rattle.page_judge.specs.Worked.{workedPage, put, minusWord, Change, changed, sealed, pageWith}
 use Rattle.refusals.specs.declared.Verdict.{Verdict}
 use Rattle.refusals.specs.declared.Verdict.the-variants.{Accepted, Refused}
 
@@ -108,14 +108,14 @@ abbrev ends : List Case
 ends =
     each 5 0x0001 reserved ++ each 5 0x0100 reserved
     ++ each 7 6001 cellLevels
-    ++ each 7 121 heatLevels ++ each 7 (minus 41) heatLevels
+    ++ each 7 121 heatLevels ++ each 7 (minusWord 41) heatLevels
     ++ each 7 0 (words 2) ++ each 7 241 (words 2)
     ++ each 7 0 (words 3) ++ each 7 241 (words 3)
     ++ each 7 4 (words 4)
     ++ taken (all 2 1 ++ all 3 240 ++ all 4 0)
     ∷ taken (all 2 240 ++ all 3 1 ++ all 4 3)
     ∷ taken (put 41 120 ∷ put 42 119 ∷ put 46 120 ∷ put 47 119 ∷ put 51 120 ∷ put 52 119 ∷ [])
-    ∷ taken (put 41 (minus 39) ∷ put 42 (minus 40) ∷ put 46 (minus 39) ∷ put 47 (minus 40) ∷ put 51 (minus 39) ∷ put 52 (minus 40) ∷ [])
+    ∷ taken (put 41 (minusWord 39) ∷ put 42 (minusWord 40) ∷ put 46 (minusWord 39) ∷ put 47 (minusWord 40) ∷ put 51 (minusWord 39) ∷ put 52 (minusWord 40) ∷ [])
     ∷ []
 
 unfoldable cases : List Case
@@ -145,19 +145,19 @@ cases =
     ∷ taken (put 16 6000 ∷ put 17 0 ∷ put 18 1 ∷ put 19 1 ∷ put 20 0 ∷ [])
     ∷ taken (put 21 0 ∷ put 22 6000 ∷ put 23 240 ∷ put 24 240 ∷ put 25 3 ∷ [])
     ∷ refused 7 16 (one 16 0x9A10)  -- 4250 read backwards
-    ∷ taken (put 26 1 ∷ put 27 (minus 1) ∷ put 31 (minus 32768) ∷ put 32 1 ∷ put 36 (minus 32768) ∷ put 37 (minus 1) ∷ [])
-    ∷ taken (put 26 32767 ∷ put 27 (minus 32768) ∷ put 31 (minus 1) ∷ put 32 32767 ∷ [])
+    ∷ taken (put 26 1 ∷ put 27 (minusWord 1) ∷ put 31 (minusWord 32768) ∷ put 32 1 ∷ put 36 (minusWord 32768) ∷ put 37 (minusWord 1) ∷ [])
+    ∷ taken (put 26 32767 ∷ put 27 (minusWord 32768) ∷ put 31 (minusWord 1) ∷ put 32 32767 ∷ [])
     ∷ refused 7 55 (put 16 4150 ∷ put 55 4 ∷ [])  -- 7 before 8
     -- 8: equal levels, and levels the other way round, in each direction
     ∷ refused 8 16 (one 16 4150)
     ∷ refused 8 16 (put 16 4150 ∷ put 17 4250 ∷ [])
     ∷ refused 8 21 (one 21 2600)
     ∷ refused 8 21 (one 21 2601)
-    ∷ refused 8 26 (put 26 (minus 1) ∷ put 27 1 ∷ [])
-    ∷ refused 8 31 (one 31 (minus 4000))
-    ∷ refused 8 36 (put 36 1 ∷ put 37 (minus 1) ∷ [])
+    ∷ refused 8 26 (put 26 (minusWord 1) ∷ put 27 1 ∷ [])
+    ∷ refused 8 31 (one 31 (minusWord 4000))
+    ∷ refused 8 36 (put 36 1 ∷ put 37 (minusWord 1) ∷ [])
     ∷ refused 8 41 (one 41 40)
-    ∷ refused 8 46 (put 46 (minus 1) ∷ put 47 0 ∷ [])
+    ∷ refused 8 46 (put 46 (minusWord 1) ∷ put 47 0 ∷ [])
     ∷ refused 8 51 (one 51 70)
     ∷ refused 8 26 (put 51 70 ∷ put 26 2500 ∷ [])  -- the lowest word
     ∷ []

@@ -35,7 +35,7 @@ add-small c = search needs
 small-requires : tie.Need-small-requires
 small-requires c κs =
     let s = c .before .before .before .before .before .before .before in
-    rw (c .before .before .before .before .trip-word .ensures) (let k = accepted-limits _ (s .pre .0) (s .args .p .0) (s .pre .1) .n in omega arith)
+    rw (c .before .before .before .before .trip-word .ensures) (let k = accepted-limits _ (s .pre .0) (s .args .p .0) (s .pre .1) in omega arith)
 
 add-small-2 : tie.Need-add-small-2
 add-small-2 c = search needs
@@ -43,7 +43,7 @@ add-small-2 c = search needs
 small-requires-2 : tie.Need-small-requires-2
 small-requires-2 c κs =
     let s = c .before .before .before .before .before .before .before .before in
-    rw (c .before .before .before .before .before .trip-word .ensures) (let k = accepted-limits _ (s .pre .0) (s .args .p .0) (s .pre .1) .m in omega arith)
+    rw (c .before .before .before .before .before .trip-word .ensures) (let k = accepted-limits _ (s .pre .0) (s .args .p .0) (s .pre .1) in omega arith)
 
 add-small-3 : tie.Need-add-small-3
 add-small-3 c = search needs
@@ -51,7 +51,7 @@ add-small-3 c = search needs
 small-requires-3 : tie.Need-small-requires-3
 small-requires-3 c κs =
     let s = c .before .before .before .before .before .before .before .before .before in
-    rw (c .before .before .before .before .before .before .trip-word .ensures) (let k = accepted-limits _ (s .pre .0) (s .args .p .0) (s .pre .1) .mask in omega arith)
+    rw (c .before .before .before .before .before .before .trip-word .ensures) (let k = accepted-limits _ (s .pre .0) (s .args .p .0) (s .pre .1) in omega arith)
 
 returns : tie.Need-returns
 unfolding limitsFrom

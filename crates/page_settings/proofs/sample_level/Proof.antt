@@ -19,13 +19,13 @@ mul-result : tie.Need-mul-result
 mul-result c = times-fits (c .before .before .level-of .result) (rw (c .before .before .level-of .ensures) (level-small _ _ (c .before .before .before .fits .x .fits)))
 
 add-result : tie.Need-add-result
-add-result c = plus-fits (c .before .before .level-of .result) (rw (c .before .before .level-of .ensures) (level-small _ _ (c .before .before .before .fits .x .fits))) 2730 (omega arith)
+add-result c = plus-fits (c .before .before .level-of .result) (rw (c .before .before .level-of .ensures) (level-small _ _ (c .before .before .before .fits .x .fits))) _ (omega arith)
 
 returns : tie.Need-returns
 unfolding sampleLevel
 returns c =
     rw (← c .before .in-degrees .ensures, c .if1 .taken, ← c .before .before .level-of .ensures)
-    (plus-is (c .before .before .level-of .result) (rw (c .before .before .level-of .ensures) (level-small _ _ (c .before .before .before .fits .x .fits))) 2730 (omega arith))
+    (plus-is (c .before .before .level-of .result) (rw (c .before .before .level-of .ensures) (level-small _ _ (c .before .before .before .fits .x .fits))) _ (omega arith))
 
 returns-2 : tie.Need-returns-2
 unfolding sampleLevel
