@@ -39,7 +39,7 @@ use Rattle.bus_words.specs.Words.{heatRaised, statusWord, statusOf, with
 -- ---- the words
 
 -- The two bits of the switches' word.
-switch-bits : (on : ℕ → Bool) → (hasBit (switchesWord on) 0 ≡ on 0) × (hasBit (switchesWord on) 1 ≡ on 1)
+pub switch-bits : (on : ℕ → Bool) → (hasBit (switchesWord on) 0 ≡ on 0) × (hasBit (switchesWord on) 1 ≡ on 1)
 unfolding hasBit withBitIf withBit
 switch-bits on = bits (on 0) (on 1)
   where

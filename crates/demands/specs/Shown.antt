@@ -23,7 +23,8 @@ use Rattle.sample.specs.declared.Sample.{Sample}
 use Rattle.sample.specs.Measure.{trips, qualifies}
 use Rattle.protections.specs.Limits.{limitsAt}
 use Rattle.guard.specs.Steps.{raised, raised-when, released-when}
-use Rattle.guard_raised.specs.Words.{bitsOf, anyOf, any-yes, any-bits, raisedAfter, raisedWord, someRaised, blocked, raisedWord-has}
+use Rattle.laws.specs.Words.{bitsOf, anyOf, any-yes, any-bits}
+use Rattle.guard_raised.specs.Words.{raisedAfter, raisedWord, someRaised, blocked, raisedWord-has}
 use Rattle.page_settings.specs.declared.Settings.{Settings}
 use Rattle.page_settings.specs.Settings.{limitsFrom, settingsOf, rulesOf, noSettings, loadedWith, loadedOf}
 use Rattle.page_settings.specs.Good.{limits-at}
@@ -47,6 +48,7 @@ use Rattle.pack.specs.After.{after, after-is}
 use Rattle.pack_shown.specs.declared.Decision.{Decision}
 use Rattle.pack_shown.specs.Shown.{switchAfter, switchesWord, decisionAfter, decisionOf}
 use Rattle.pack_shown.specs.Decided.{decision-is}
+use Rattle.bus_words.specs.Demands.{switch-bits}
 use Rattle.demands.specs.BledWords.{bledWords}
 
 -- ---- what is shown
@@ -252,17 +254,6 @@ module _ (bytes : List ℕ) (es : List Event) (s : Sample) (taken : offered (aft
       ∙ ap₂ (λ (m : ℕ) (test : Sample → Bool). not (lastAll m test latest)) (word-m bytes accepted p inside) (qualifying bytes accepted p inside)
 
 -- ---- switches
-
--- The two bits of the switches' word.
-switch-bits : (on : ℕ → Bool) → (hasBit (switchesWord on) 0 ≡ on 0) × (hasBit (switchesWord on) 1 ≡ on 1)
-unfolding hasBit withBitIf withBit
-switch-bits on = bits (on 0) (on 1)
-  where
-    bits : (a b : Bool) → (hasBit (withBitIf b (withBitIf a 0 0) 1) 0 ≡ a) × (hasBit (withBitIf b (withBitIf a 0 0) 1) 1 ≡ b)
-    bits true true = (refl, refl)
-    bits true false = (refl, refl)
-    bits false true = (refl, refl)
-    bits false false = (refl, refl)
 
 own-bit : (on : ℕ → Bool) (switch : ℕ) → switch < 2 → hasBit (switchesWord on) switch ≡ on switch
 own-bit on zero h = switch-bits on .0

@@ -16,7 +16,7 @@ use Rattle.page_words.specs.Ranges.{wordAt}
 use Rattle.page_judge.specs.Page.{judged}
 use Rattle.refusals.specs.declared.Verdict.{Verdict}
 use Rattle.refusals.specs.declared.Verdict.the-variants.{Accepted, Refused}
-use Rattle.guard_raised.specs.Words.{anyOf, any-yes}
+use Rattle.laws.specs.Words.{anyOf, any-yes}
 use Rattle.bleed_wants.specs.Word.{inWord}
 use Rattle.bleed.specs.Walk.Walk.{upFrom}
 use Rattle.bleed.specs.Walk.History.{wantsCell}

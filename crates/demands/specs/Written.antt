@@ -21,15 +21,16 @@ use Rattle.sample.specs.Cases as sample
 use Rattle.sample.specs.Cells.{bestOf, extremesOf}
 use Rattle.sample.specs.Measure.{measure}
 use Rattle.guard.specs.Steps.{raised, protectionsOf, protectionOf, stepAllWith, stepWith, stepOne}
-use Rattle.guard_raised.specs.Words.{bitsOf, anyOf, raisedBits, anyRaised, blocksOne, blocksAny, someRaised}
+use Rattle.laws.specs.Words.{bitsOf, anyOf}
+use Rattle.guard_raised.specs.Words.{raisedBits, anyRaised, blocksOne, blocksAny, someRaised}
 use Rattle.bleed_wants.specs.Wants.{wants}
 use Rattle.bleed_wants.specs.Word.{inWord, wordTo}
-use Rattle.bleed_wants.specs.Steps.{tenAtMost, cellOf, wishes, wantingWord}
+use Rattle.bleed_wants.specs.Steps.{cellOf, wishes, wantingWord}
 use Rattle.laws.specs.Latest.{nextRun}
 use Rattle.bleed.specs.Resting.Steps.{nextCell, nextRuns, runOf, rested, restingWord}
 use Rattle.bleed.specs.Walk.Walk.{has, upFrom}
 use Rattle.bleed.specs.Walk.Steps.{isCell, chosenWord}
-use Rattle.pack_refusals.specs.Samples.{cellsFit, exactCount, sampleRefusals, sampleVerdict, commandRefusals, commandVerdict, keptCell, trimmed}
+use Rattle.pack_refusals.specs.Samples.{cellsFit, sampleRefusals, sampleVerdict, commandRefusals, commandVerdict, keptCell, trimmed}
 use Rattle.pack_state.specs.State.{wishAt, wishesOf, freshPack, freshBalance, nextTick, nextBalance, wantWith, acceptedPack}
 use Rattle.pack.specs.Events.{Event, offer, withEvent, pastOf}
 use Rattle.pack.specs.Answers.{offered, withCommand, commanded}
@@ -57,8 +58,8 @@ unfoldable pub computed : Unit {0}
 unfolding anyOf loadedOf settingsOf rulesOf limitsOf limitsFrom sampleLevel inDegrees levelOf signedOf judged refusals meets kindOf kindMeets onRow levelMet orderMet wordAt within degreesFit
     levelFits rowAt table checkByte remainder withByte timesXs timesX afterLoad freshPack freshBalance offered commanded withCommand
     acceptedPack nextBalance wantWith nextTick decisionOf switchesOf modeOf modeOrder firstMode sampleVerdict sampleRefusals
-    commandVerdict commandRefusals cellsFit exactCount trimmed keptCell protectionsOf protectionOf stepAllWith stepWith stepOne listOf listFrom
-    eachTo extremesOf bestOf raisedBits anyRaised blocksAny blocksOne bitsOf hasBit withBit withBitIf wants inWord wordTo tenAtMost
+    commandVerdict commandRefusals cellsFit trimmed keptCell protectionsOf protectionOf stepAllWith stepWith stepOne listOf listFrom
+    eachTo extremesOf bestOf raisedBits anyRaised blocksAny blocksOne bitsOf hasBit withBit withBitIf wants inWord wordTo
     cellOf runOf wishes wantingWord rested restingWord nextCell nextRun nextRuns isCell chosenWord noSettings wishesOf wishAt someRaised raised
     measure withEvent pastOf
 computed = tt
