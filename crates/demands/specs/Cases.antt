@@ -24,6 +24,19 @@ use Rattle.pack_state.specs.State.{freshPack}
 use Rattle.pack.specs.Answers.{offered, commanded}
 use Rattle.pack.specs.Kept.{pageOf}
 use Rattle.pack_shown.specs.Shown.{decisionOf}
+use Rattle.text_fields.specs.Quoted.{quoted}
+use Rattle.text_fields.specs.Decimal.{decimal}
+use Rattle.text_fields.specs.Fields.{fieldsOf, lineOf}
+use Rattle.text_fields.specs.Finding.{lacks}
+use Rattle.text_numbers.specs.Numbers as numbers
+use Rattle.text_numbers.specs.Numbers.{digitsTo, numberTo}
+use Rattle.guard_raised.specs.Words.{raisedWord, blocked}
+use Rattle.bleed.specs.Walk.Balance.{bledWord}
+use Rattle.pack_state.specs.State.{bledAfter}
+use Rattle.pack_shown.specs.Shown.{decisionAfter, modeAfter}
+use Rattle.log_entries.specs.Entry.{commandOf, cellsFrom, secondOf, firstOf, sampleOf, fieldsSay, entryOf}
+use Rattle.log_texts.specs.Texts.{decisionText, refusedText}
+use Rattle.demands.specs.History.{story}
 use Rattle.demands.specs.Shown.{shownWords}
 use Rattle.demands.specs.Written.{sampled, charged, computed}
 
@@ -162,9 +175,9 @@ reporting =
           ∷ [];
     }
 
--- The modes, in the order 4, 3, 2, 0, 7, 6, 5: each of the first eight samples raises one more of 5, 6, 7, 0, 2, 3, 4 and shows the number of
--- the one that comes first; then only 1 stays raised, which has none. With masks of 0 both switches stay on, and still nothing is bled
--- while one is raised, though cell 2 is high enough at each sample.
+-- The modes, in the order 4, 3, 2, 0, 7, 6, 5: samples 2 to 8 raise 5, 6, 7, 0, 2, 3 and 4, one after the other, and each shows the number
+-- of the one just raised, since it comes first. At sample 9 only 1 is raised, which has no number. With masks of 0 both switches stay on,
+-- and still nothing is bled while one is raised, though cell 2 is high enough at every sample.
 abbrev modeCases : Case
 modeCases =
     case
@@ -206,6 +219,21 @@ cases-pass = refl
 pub listed : shownWords workedPage (command 3 ∷ charged (4100 ∷ []) ∷ charged (4000 ∷ 4020 ∷ []) ∷ []) ≡ 2 ∷ []
 unfolding computed
 listed = refl
+
+-- Document 01's log once more: what document 01 says of each line behind the lines before it, by the page and the history alone.
+pub lines-said
+    : story workedPage []
+    (quoted "F\t3"
+    ∷ quoted "S\t500\t2980\t2980\t4000\t4020"
+    ∷ quoted "S\t500\t2980\t2980\t4260\t4100"
+    ∷ quoted "S\t500\t2980\t2980\t4260\t4100"
+    ∷ quoted "S\t500\t2980\t2980\t4100"
+    ∷ quoted "S\t500"
+    ∷ [])
+    ≡ quoted "0\t0\t0\t0\t0\n1\t0\t3\t2\t3\n2\t0\t3\t1\t3\n3\t1\t2\t0\t21\nrefused\t9\nrefused\t17\n"
+unfolding computed decisionAfter modeAfter raisedWord blocked bledAfter bledWord story decisionText refusedText decimal fieldsOf lineOf lacks
+    digitsTo numberTo numbers.signedOf entryOf commandOf cellsFrom secondOf firstOf sampleOf fieldsSay
+lines-said = refl
 
 -- ---- the settings of these cases are those of accepted pages
 

@@ -82,7 +82,8 @@ demand-1-command p c = is-answered _ _ (answers.command-accepted-exactly p c) (a
 -- A command on the bus, with a buffer of any length: sent, or refused by rows 12 to 15.
 pub demand-1-reply : (p : Pack) (c room : ℕ) → IsReplied (repliedTo p c room) (replyRefusals (p .rules .n) (p .sampled) c room)
 unfolding repliedTo
-demand-1-reply p c room = is-replied _ _ (bus.sent-exactly (p .rules .n) (p .sampled) c room) (bus.refused-exactly (p .rules .n) (p .sampled) c room)
+demand-1-reply p c room =
+    is-replied _ _ (bus.sent-exactly (p .rules .n) (p .sampled) c room) (bus.refused-exactly (p .rules .n) (p .sampled) c room)
 
 -- A line of the log behind any events: 17, or what document 01 says of its sample or its command (`says`).
 pub demand-1-line : (bytes : List ℕ) (es : List Event) (line : List ℕ) → tell (after bytes es) line .told ≡ says bytes es line

@@ -11,7 +11,7 @@ use native.Mathlib.Omega.{arith}
 use lib.ListN.{length}
 use borrow.Author.Tests.{not-true, ne-eqb}
 use Rattle.laws.specs.Tests.{by-test, clash, and-left, and-right}
-use Rattle.laws.specs.Bits.{hasBit, withBit, withBitIf}
+use Rattle.laws.specs.Bits.{hasBit, withBitIf}
 use Rattle.laws.specs.Latest.{lastAll}
 use Rattle.protections.specs.Table.{rowAt, protections}
 use Rattle.protections.specs.declared.Limits.{Limits}
@@ -86,7 +86,8 @@ unfolding decisionAfter
 shown-balance bytes es = ap (λ (d : Decision). d .balance) (shown-is bytes es)
 
 -- What an offer answers.
-pub verdict-is : (bytes : List ℕ) (es : List Event) (s : Sample) → offered (after bytes es) s .verdict ≡ sampleVerdict (pageOf bytes .rules .n) s
+pub verdict-is : (bytes : List ℕ) (es : List Event) (s : Sample)
+    → offered (after bytes es) s .verdict ≡ sampleVerdict (pageOf bytes .rules .n) s
 verdict-is bytes es s =
     ap (λ (p : Pack). offered p s .verdict) (after-is bytes es) ∙ ap (λ (a : Answered). a .verdict) (offered-is bytes es s)
 
@@ -331,7 +332,8 @@ module _ (bytes : List ℕ) (es : List Event) (switch : ℕ) where
 
 -- ---- a raised protection stops all bleeding
 
-nobody-wants : (page : Settings) (s : Sample) (h : List Sample) → someRaised (page .limits) (s ∷ h) ≡ true → (k : ℕ) → wishAt page s h k ≡ false
+nobody-wants : (page : Settings) (s : Sample) (h : List Sample) → someRaised (page .limits) (s ∷ h) ≡ true
+    → (k : ℕ) → wishAt page s h k ≡ false
 unfolding wishAt wishes wants
 nobody-wants page s h e k =
     by-test (isCharging (page .rules .detection) (s .current)) (λ t. rw (t, e)) (λ t. rw t)

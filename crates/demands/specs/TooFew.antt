@@ -51,8 +51,8 @@ three-too-few = (refl, refl)
 
 -- ---- n samples in a pack of n cells
 
--- The samples, the latest first. Nobody wants at the first n - 1. At the next cell 1 wants alone: it is bled, and rests at the one after it,
--- which is its own start turn. At each of the n - 1 after that the start cell wants too, and K is 1.
+-- The samples, the latest first. Nobody wants at the first n - 1. At the next cell 1 wants alone: it is bled, and rests at the one after
+-- it, which is its own start turn. At each of the n - 1 after that the start cell wants too, and K is 1.
 abbrev pub waiting : ℕ → List Event
 waiting n = reverse (map (chargedHigh n) (replicate (n - 1) [] ++ (1 ∷ []) ∷ map (λ k. 1 ∷ k ∷ []) (upFrom 1 n)))
 

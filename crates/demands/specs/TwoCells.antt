@@ -32,8 +32,8 @@ use Rattle.bleed.specs.Walk.History.{wantsCell, resting, startCell, bleds}
 use Rattle.bleed_wants.specs.Wants.{wants}
 use Rattle.bleed_wants.specs.Steps.{wishes, cellOf}
 use Rattle.bleed_wants.specs.Word.{inWord}
-use Rattle.pack_state.specs.State.{wishAt, wishesOf}
-use Rattle.demands.specs.BledWords.{bledWords, words-alike, alike-drop, alike-among}
+use Rattle.pack_state.specs.State.{byPage, wishAt, wishesOf}
+use Rattle.demands.specs.BledWords.{bledWords, words-among}
 
 -- ---- two samples in a row
 
@@ -92,8 +92,9 @@ one-wants page s h k d pair k1 k2 d1 d2 wk wd =
     let a : low < getD (s .cells) (k - 1) noVolts .0 = above-lowest _ _ _ _ low _ wk in
     let b : low < getD (s .cells) (d - 1) noVolts .0 = above-lowest _ _ _ _ low _ wd in
     let same : low ≡ getD (s .cells) (at .place) noVolts .0 = is ∙ ap (λ (v : MilliVolts). v .0) (at .is) in
-    let not-k : at .place ≡ k - 1 → ⊥ = λ e. let z : low ≡ getD (s .cells) (k - 1) noVolts .0 = same ∙ ap (λ (i : ℕ). getD (s .cells) i noVolts .0) e in omega arith in
-    let not-d : at .place ≡ d - 1 → ⊥ = λ e. let z : low ≡ getD (s .cells) (d - 1) noVolts .0 = same ∙ ap (λ (i : ℕ). getD (s .cells) i noVolts .0) e in omega arith in
+    let there : (i : ℕ) → at .place ≡ i → low ≡ getD (s .cells) i noVolts .0 = λ i e. same ∙ ap (λ (x : ℕ). getD (s .cells) x noVolts .0) e in
+    let not-k : at .place ≡ k - 1 → ⊥ = λ e. let z = there (k - 1) e in omega arith in
+    let not-d : at .place ≡ d - 1 → ⊥ = λ e. let z = there (d - 1) e in omega arith in
     let inside = at .within in
     by-test (eqb d k)
     (λ t. eqb-true d k t)
@@ -132,8 +133,8 @@ wishes-alone page k first last (s ∷ h) c =
 
 -- A pack of two cells, after any events: a cell that wants at two accepted samples in a row, j samples before the latest, is bled in at
 -- least one of them.
-pub two-suffice : (bytes : List ℕ) → judged bytes ≡ Accepted → pageOf bytes .rules .n ≡ 2 → (es : List Event) (k : ℕ) → 1 ≤ k → k ≤ 2 → (j : ℕ)
-    → lastAll 2 (wantsCell k) (drop j (wishesOf (pageOf bytes) (pastAfter bytes es .history))) ≡ true
+pub two-suffice : (bytes : List ℕ) → judged bytes ≡ Accepted → pageOf bytes .rules .n ≡ 2 → (es : List Event) (k : ℕ) → 1 ≤ k → k ≤ 2
+    → (j : ℕ) → lastAll 2 (wantsCell k) (drop j (wishesOf (pageOf bytes) (pastAfter bytes es .history))) ≡ true
     → 0 < among 2 (λ w. inWord w k) (drop j (bledWords (pageOf bytes) (pastAfter bytes es .history)))
 two-suffice bytes taken pair es k first last j wanting =
     let page = pageOf bytes in
@@ -141,8 +142,6 @@ two-suffice bytes taken pair es k first last j wanting =
     let h = pastAfter bytes es .history in
     let ws = wishesOf page h in
     let counts : Counts 2 h = subst (λ (n : ℕ). Counts n h) pair (history-counts (page .rules .n) es) in
-    rw (alike-among (λ w. inWord w k) (has k) 2 (drop j (bledWords page h)) (drop j (bleds (page .rules .n) (page .rules .k) (page .rules .r) ws))
-    (alike-drop (λ w. inWord w k) (has k) j (bledWords page h) (bleds (page .rules .n) (page .rules .k) (page .rules .r) ws) (words-alike page good k first h)))
-    (subst (λ (n : ℕ). 0 < among 2 (has k) (drop j (bleds n (page .rules .k) (page .rules .r) ws))) (sym pair)
-    (subst (λ (l : List (List ℕ)). 0 < among 2 (has k) l) (bleds-drop 2 (page .rules .k) (page .rules .r) j ws)
-    (two 2 (page .rules .k) (page .rules .r) k (good .k .0) (good .r .0) first last (drop j ws) (alone-drop 2 k j ws (wishes-alone page k first last h counts)) wanting)))
+    let alone : Alone (page .rules .n) k ws = subst (λ (n : ℕ). Alone n k ws) (sym pair) (wishes-alone page k first last h counts) in
+    rw (words-among page good k first 2 j h, ← byPage page bleds-drop j ws)
+    (byPage page two k (good .k .0) (good .r .0) first (omega arith) (drop j ws) (alone-drop (page .rules .n) k j ws alone) wanting)

@@ -55,11 +55,12 @@ pageFor n = pageWith (put 1 n ∷ put 2 1 ∷ put 3 1 ∷ [])
 
 -- All that a case computes with, from a page's bytes and events to what is shown: `unfolding computed` opens each of them.
 unfoldable pub computed : Unit {0}
-unfolding anyOf loadedOf settingsOf rulesOf limitsOf limitsFrom sampleLevel inDegrees levelOf signedOf judged refusals meets kindOf kindMeets onRow levelMet orderMet wordAt within degreesFit
-    levelFits rowAt table checkByte remainder withByte timesXs timesX afterLoad freshPack freshBalance offered commanded withCommand
-    acceptedPack nextBalance wantWith nextTick decisionOf switchesOf modeOf modeOrder firstMode sampleVerdict sampleRefusals
-    commandVerdict commandRefusals cellsFit trimmed keptCell protectionsOf protectionOf stepAllWith stepWith stepOne listOf listFrom
-    eachTo extremesOf bestOf raisedBits anyRaised blocksAny blocksOne bitsOf hasBit withBit withBitIf wants inWord wordTo
-    cellOf runOf wishes wantingWord rested restingWord nextCell nextRun nextRuns isCell chosenWord noSettings wishesOf wishAt someRaised raised
+unfolding anyOf loadedOf settingsOf rulesOf limitsOf limitsFrom sampleLevel inDegrees levelOf signedOf judged refusals meets
+    kindOf kindMeets onRow levelMet orderMet wordAt within degreesFit levelFits rowAt table checkByte remainder withByte
+    timesXs timesX afterLoad freshPack freshBalance offered commanded withCommand acceptedPack nextBalance wantWith nextTick
+    decisionOf switchesOf modeOf modeOrder firstMode sampleVerdict sampleRefusals commandVerdict commandRefusals cellsFit
+    trimmed keptCell protectionsOf protectionOf stepAllWith stepWith stepOne listOf listFrom eachTo extremesOf bestOf
+    raisedBits anyRaised blocksAny blocksOne bitsOf hasBit withBit withBitIf wants inWord wordTo cellOf runOf wishes
+    wantingWord rested restingWord nextCell nextRun nextRuns isCell chosenWord noSettings wishesOf wishAt someRaised raised
     measure withEvent pastOf
 computed = tt
