@@ -24,7 +24,7 @@ use Rattle.pack.specs.Events.{Event, offer, command, accepts, withEvent, pastOf
 use Rattle.pack_state.specs.State.{latestOf, stateOf}
 use Rattle.pack.specs.Kept.{Kept, pageOf, stateAfter}
 use Rattle.pack.specs.Calls.{page-good}
-use Rattle.bus_words.specs.Words.{sumTo, sumOf, Bounded}
+use Rattle.bus_words.specs.Words.{sumTo, sumWord, Bounded}
 
 -- Cells that fit are 6000 mV at most.
 fits-most : (cells : List MilliVolts) (k : ℕ) → cellsFit cells k ≡ true → (i : ℕ) → i < k → getD cells i noVolts .0 ≤ 6000
@@ -74,7 +74,7 @@ accepted-fits n s e =
     (λ t. t)
     (λ t. by-test (exactCount n (s .count)) (λ u. clash e (rw (u, t))) (λ u. clash e (rw u)))
 
-trimmed-most : (n : ℕ) (s : Sample) → accepts (sampleVerdict n s) ≡ true → sumOf (trimmed s) ≤ 60000
+trimmed-most : (n : ℕ) (s : Sample) → accepts (sampleVerdict n s) ≡ true → sumWord (trimmed s) ≤ 60000
 unfolding trimmed
 trimmed-most n s e =
     let few = looked-most (s .count) in
@@ -83,7 +83,7 @@ trimmed-most n s e =
     omega arith
 
 -- The sum of the latest sample's cells, after any events.
-pub latest-most : (n : ℕ) (es : List Event) → sumOf (latestOf (pastOf n es .history)) ≤ 60000
+pub latest-most : (n : ℕ) (es : List Event) → sumWord (latestOf (pastOf n es .history)) ≤ 60000
 unfolding pastOf withEvent sumTo
 latest-most n [] = omega arith
 latest-most n (offer s ∷ es) =

@@ -8,6 +8,7 @@ use Rattle.laws.specs.Bits.{hasBit, withBit, withBitIf}
 use Rattle.laws.specs.Each.{eachTo}
 use Rattle.laws.specs.Latest.{nextRun}
 use Rattle.laws.specs.Numbered.{listOf}
+use Rattle.laws.specs.Words.{bitsOf, anyOf}
 use Rattle.protections.specs.Table.{rowAt, table}
 use Rattle.sample.specs.Cells.{bestOf, extremesOf}
 use Rattle.sample.specs.Measure.{measure}
@@ -15,10 +16,10 @@ use Rattle.sample.specs.Cases.{minus, sampled}
 use Rattle.sample.specs.declared.Sample.{Sample}
 use Rattle.guard.specs.Cases.{limited}
 use Rattle.guard.specs.Steps.{raised, protectionOf, protectionsOf, stepOne, stepWith, stepAllWith}
-use Rattle.guard_raised.specs.Words.{anyOf, anyRaised, someRaised}
+use Rattle.guard_raised.specs.Words.{anyRaised, someRaised}
 use Rattle.bleed_wants.specs.Wants.{wants}
 use Rattle.bleed_wants.specs.Word.{inWord, wordTo}
-use Rattle.bleed_wants.specs.Steps.{tenAtMost, cellOf, wishes, wantingWord}
+use Rattle.bleed_wants.specs.Steps.{cellOf, wishes, wantingWord}
 use Rattle.bleed.specs.Resting.Steps.{nextCell, nextRuns, runOf, rested, restingWord}
 use Rattle.bleed.specs.Walk.Steps.{isCell, chosenWord}
 use Rattle.bleed.specs.Walk.Word.{withCellIf}
@@ -107,11 +108,11 @@ starred =
 
 pub starred-said : said seven ≡ starred
 unfolding balanceAfter restedAfter bledAfter bledWord wishesOf wishAt wishes cellOf wants someRaised anyOf raised rowAt table measure
-    extremesOf bestOf wordTo withBitIf withBit withCellIf
+    extremesOf bestOf wordTo bitsOf withBitIf withBit withCellIf
 starred-said = refl
 
 pub starred-made : made seven ≡ starred
-unfolding acceptedPack freshPack freshBalance nextBalance wantWith wantingWord tenAtMost wishes cellOf wants anyRaised anyOf stepAllWith
+unfolding acceptedPack freshPack freshBalance nextBalance wantWith wantingWord wishes cellOf wants anyRaised anyOf stepAllWith
     stepWith stepOne nextRun protectionsOf protectionOf listOf raised rowAt table measure extremesOf bestOf restingWord rested runOf chosenWord
-    isCell inWord hasBit withCellIf withBitIf withBit wordTo nextCell nextRuns eachTo
+    isCell inWord hasBit withCellIf withBitIf withBit wordTo bitsOf nextCell nextRuns eachTo
 starred-made = refl
