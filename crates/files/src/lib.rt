@@ -99,7 +99,7 @@ pub fn read_all(name: &[u8], fd: i32, buf: &mut [u8]) -> Got
 // has ended only where no line is left, there was room for more, and a read gave nothing.
 pub fn read_more(name: &[u8], fd: i32, done: bool, buf: &mut [u8], held: usize) -> More
     ensures { λ r. ⌜ r .have ≤ length (now (buf .entry)) ⌝ }
-    ensures { λ r. ⌜ (r .ended ≡ true → done ≡ true) ⌝ }
+    ensures { λ r. ⌜ (r .ended ≡ true → (done ≡ true) × (r .have ≡ held)) ⌝ }
 {
     if done {
         if buf.len() <= held {

@@ -9,10 +9,11 @@ ghost use Rattle.pack.specs.Kept.{Kept};
 use pack_state::Pack;
 use refusals::Verdict;
 
-// What a round left: whether nothing failed, whether no line is left, and the bytes that wait for the next one.
+// What a round left: whether nothing failed, whether no line is left, whether the log has ended, and the bytes that wait for the next one.
 struct Round {
     ok: bool,
     done: bool,
+    ended: bool,
     held: usize,
     pack: Pack,
 }
@@ -32,13 +33,14 @@ fn answer_part(p: Pack, buf: &mut [u8], have: usize, out: &mut [u8]) -> Round
     Round {
         ok: ok,
         done: r.done,
+        ended: false,
         held: r.held,
         pack: k,
     }
 }
 
-// Answers the log, of which the first `first` bytes are read, up to its last line: where it is ok, no line is left, and what waits has room
-// for its newline. What it could not do it has said.
+// Answers the log, of which the first `first` bytes are read, up to its last line: where it is ok, the log has ended, no line is left, and
+// what waits has room for its newline. What it could not do it has said.
 fn answer_lines(
     name: &[u8],
     fd: i32,
@@ -49,7 +51,7 @@ fn answer_lines(
 ) -> Round
     requires { ⌜ Kept p × (first ≤ length (now buf)) ⌝ }
     ensures { λ r. ⌜ Kept (r .pack) × (r .held ≤ length (now (buf .entry))) ⌝ }
-    ensures { λ r. ⌜ (r .ok ≡ true → (r .done ≡ true) × (r .held ≤ 129)) ⌝ }
+    ensures { λ r. ⌜ (r .ok ≡ true → (r .ended ≡ true) × (r .done ≡ true) × (r .held ≤ 129)) ⌝ }
 {
     let mut k = p;
     let mut have = first;
@@ -66,7 +68,8 @@ fn answer_lines(
             r.ok = false;
             return r;
         }
-        if more.ended {
+        r.ended = more.ended;
+        if r.ended {
             return r;
         }
         have = more.have;
@@ -75,6 +78,7 @@ fn answer_lines(
     Round {
         ok: false,
         done: true,
+        ended: false,
         held: 0,
         pack: k,
     }

@@ -2,6 +2,7 @@
 use mathlib.Core.Path.{sym}
 use mathlib.Core.Bool.{true≢false}
 use borrow.Author.Needs.{needs}
+use borrow.Author.Tests.{eqb-true}
 use native.Mathlib.Omega.{arith}
 use Rattle.files.proofs.read_more.Statement.{statement}
 use Rattle.files.proofs.read_more.Tie as tie
@@ -13,7 +14,7 @@ say-requires : tie.Need-say-requires
 say-requires c κs = search needs
 
 returns : tie.Need-returns
-returns c = search needs
+returns c = (omega arith, λ t. absurd (true≢false (sym t)))
 
 read-on-requires : tie.Need-read-on-requires
 read-on-requires c κs = search needs
@@ -22,7 +23,7 @@ same-length : tie.Need-same-length
 same-length c = search needs
 
 returns-2 : tie.Need-returns-2
-returns-2 c = search needs
+returns-2 c = (c .before .before .before .read-on .ensures .0, λ t. (c .before .before .before .before .before .before .if1 .taken, eqb-true _ _ t))
 
 returns-3 : tie.Need-returns-3
 returns-3 c = (omega arith, λ t. absurd (true≢false (sym t)))
