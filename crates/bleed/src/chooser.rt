@@ -2,7 +2,7 @@
 ghost use mathlib.Core.Path.{_≡_};
 ghost use Rattle.bleed_wants.specs.Word.{inWord};
 ghost use Rattle.bleed.specs.Walk.Word.{withCellIf};
-ghost use Rattle.bleed.specs.Walk.Steps.{CellOf, Chosen, besideTaken, mayTake, takeOne};
+ghost use Rattle.bleed.specs.Walk.Steps.{isCell, Chosen, besideTaken, mayTake, takeOne};
 use crate::resting::next_start;
 use laws::has_bit;
 use laws::with_bit_if;
@@ -67,13 +67,29 @@ fn take_one(most: u8, want: u16, rest: u16, taken: u16, cell: CellNo) -> u16
     with_cell_if(taken, cell, on)
 }
 
-// The cells to bleed, `most` (K) at most: every cell is asked once, from the start cell on. The start cell is one of the pack's.
+// The cell is one of the cells 1 to n, and they are ten at most.
+fn is_cell(n: u8, cell: CellNo) -> bool
+    ensures { λ r. ⌜ r ≡ isCell n (cell .0) ⌝ }
+{
+    let k = cell.0;
+    if k < 1 {
+        return false;
+    }
+    if n < k {
+        return false;
+    }
+    n <= 10
+}
+
+// The cells to bleed, `most` (K) at most: every cell is asked once, from the start cell on. A start that is no cell gives none.
 pub fn choose(n: u8, most: u8, want: u16, rest: u16, start: CellNo) -> u16
-    requires { ⌜ CellOf n (start .0) ⌝ }
     ensures { λ r. ⌜ Chosen n most want rest (start .0) r ⌝ }
 {
     // The walk takes a cell only if it wants bleeding.
     if want == 0 {
+        return 0;
+    }
+    if !is_cell(n, start) {
         return 0;
     }
     let mut taken: u16 = 0;

@@ -2,8 +2,9 @@
 ghost use mathlib.Core.Path.{_≡_};
 ghost use mathlib.Core.Bool.{_&&_};
 ghost use lib.Dec.{leb, ltb};
-ghost use Rattle.bleed.specs.Resting.Steps.{nextCell, nextRun, nextRuns, restingWord};
+ghost use Rattle.bleed.specs.Resting.Steps.{nextCell, nextRuns, restingWord};
 use laws::has_bit;
+use laws::next_run;
 use laws::with_bit_if;
 use units::CellNo;
 
@@ -16,19 +17,6 @@ pub fn next_start(n: u8, start: CellNo) -> CellNo
         return CellNo(k + 1);
     }
     CellNo(1)
-}
-
-// The run of a cell that was bled goes on, that of another ends. It stays where a byte ends.
-fn next_run(bled: bool, run: u8) -> u8
-    ensures { λ r. ⌜ r ≡ nextRun bled run ⌝ }
-{
-    if bled {
-        if run < 255 {
-            return run + 1;
-        }
-        return run;
-    }
-    0
 }
 
 // The run counters after a sample, for each of the ten cells at how many of the latest in a row it was bled.
@@ -57,10 +45,14 @@ fn rests_one(n: u8, limit: u8, at: u8, run: u8) -> bool
     at < n && limit <= run
 }
 
-// The cells that rest, of cells 1 to n: those whose run has reached the limit R. All ten entries are asked.
-pub fn resting(n: u8, limit: u8, runs: [u8; 10]) -> u16
-    ensures { λ r. ⌜ r ≡ restingWord n limit runs ⌝ }
+// The cells that rest, of cells 1 to n: none if no cell was bled at the sample before, else those whose run has reached the
+// limit R. All ten entries are asked.
+pub fn resting(n: u8, limit: u8, bled: u16, runs: [u8; 10]) -> u16
+    ensures { λ r. ⌜ r ≡ restingWord n limit bled runs ⌝ }
 {
+    if bled == 0 {
+        return 0;
+    }
     let mut word: u16 = 0;
     let mut i: u8 = 0;
     while i < 10 {

@@ -6,9 +6,10 @@ use mathlib.Core.List.{List, [], _∷_, map}
 use lib.IntN.{pos, negsuc}
 use Rattle.units.specs.declared.MilliVolts.{MilliVolts}
 use Rattle.laws.specs.Bits.{withBit, withBitIf}
+use Rattle.laws.specs.Words.{bitsOf}
 use Rattle.bleed_wants.specs.Wants.{isCharging, wants}
 use Rattle.bleed_wants.specs.Word.{wordTo}
-use Rattle.bleed_wants.specs.Steps.{tenAtMost, cellOf, wishes, wantingWord}
+use Rattle.bleed_wants.specs.Steps.{cellOf, wishes, wantingWord}
 
 -- "More than" the difference, "at or above" the floor, "at least" the detection current, which is signed.
 abbrev tests : List Bool
@@ -33,5 +34,5 @@ volts = map (λ v. record { 0 = v }) (4011 ∷ 4000 ∷ 4010 ∷ 4500 ∷ 4500 �
 
 -- Of a pack of four cells only cells 1 to 4 want; a number over ten stands for ten.
 four-cells : wantingWord 4 true false 3900 10 4000 volts ∷ wantingWord 11 true false 3900 10 4000 volts ∷ [] ≡ 0x009 ∷ 0x219 ∷ []
-unfolding wantingWord wordTo wishes cellOf wants tenAtMost withBitIf withBit
+unfolding wantingWord wordTo bitsOf wishes cellOf wants withBitIf withBit
 four-cells = refl

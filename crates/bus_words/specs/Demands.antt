@@ -13,7 +13,7 @@ use Rattle.units.specs.Signed.{wordOf, word-signed}
 use Rattle.protections.specs.Table.{protections}
 use Rattle.page_words.specs.Ranges.{wordAt}
 use Rattle.page_judge.specs.Page.{judged}
-use Rattle.page_judge.specs.Accepted.{accepted-ranges}
+use Rattle.page_judge.specs.Accepted.{accepted-inside}
 use Rattle.refusals.specs.declared.Verdict.the-variants.{Accepted}
 use Rattle.guard_raised.specs.Words.{raisedAfter, blocksAny-is, raisedWord-has}
 use Rattle.page_settings.specs.declared.Settings.{Settings}
@@ -23,7 +23,7 @@ use Rattle.pack_state.specs.declared.Pack.{Pack}
 use Rattle.sample.specs.declared.Sample.{Sample}
 use Rattle.pack.specs.Events.{Event}
 use Rattle.pack_state.specs.Past.{Past, past}
-use Rattle.pack_state.specs.State.{wishesOf, bledAfter, balanceAfter, stateOf}
+use Rattle.pack_state.specs.State.{wishesOf, byPage, bledAfter, balanceAfter, stateOf}
 use Rattle.pack.specs.Kept.{pageOf, pastAfter, stateAfter}
 use Rattle.pack_shown.specs.Shown.{switchAfter, switchesWord}
 use Rattle.pack.specs.Calls.{page-accepted}
@@ -39,7 +39,7 @@ use Rattle.bus_words.specs.Words.{heatRaised, statusWord, statusOf, with
 -- ---- the words
 
 -- The two bits of the switches' word.
-switch-bits : (on : ℕ → Bool) → (hasBit (switchesWord on) 0 ≡ on 0) × (hasBit (switchesWord on) 1 ≡ on 1)
+pub switch-bits : (on : ℕ → Bool) → (hasBit (switchesWord on) 0 ≡ on 0) × (hasBit (switchesWord on) 1 ≡ on 1)
 unfolding hasBit withBitIf withBit
 switch-bits on = bits (on 0) (on 1)
   where
@@ -100,7 +100,7 @@ module _ (page : Settings) (p : Past) where
   -- "Never more set bits than K."
   pub bled-word-few : ones (wordAfter page p 0x46) ≤ page .rules .k
   unfolding wordAfter rowOf table sentWord packWord bledAfter
-  bled-word-few = bled-few (page .rules .n) (page .rules .k) (page .rules .r) (wishesOf page (p .history))
+  bled-word-few = byPage page bled-few (wishesOf page (p .history))
 
 -- "Values are those of the latest accepted sample; bits 8 and 9 of 0x45 also follow a later switch command": no other word does.
 module _ (page : Settings) (h : List Sample) (c d : ℕ) where
@@ -128,7 +128,7 @@ module _ (page : Settings) (h : List Sample) (c d : ℕ) where
 pub charging-current-is : (bytes : List ℕ) → judged bytes ≡ Accepted → wordOf (pageOf bytes .rules .current) ≡ wordAt bytes 8
 unfolding settingsOf rulesOf
 charging-current-is bytes taken =
-    let range = accepted-ranges bytes taken .current in
+    let range = accepted-inside bytes taken 8 (omega arith) .1 in
     rw (page-accepted bytes taken) (word-signed (wordAt bytes 8) (omega arith))
 
 -- ---- after any load and calls

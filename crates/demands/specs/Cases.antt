@@ -1,67 +1,46 @@
--- Computed cases: document 01's replay example as decisions, the limits of a sample, counts, commands, and the starred case of three
--- cells as real voltages, through load, sample and command.
+-- Computed cases, through load, sample and command: document 01's replay example as decisions, the limits of a sample, counts, commands,
+-- the modes one after the other, and masks of 0.
 -- Assumes nothing.
 use mathlib.Core.Path.{_≡_, refl, ap}
-use mathlib.Core.Bool.{true, cond}
-use mathlib.Core.List.{List, [], _∷_}
-use Prim.Native.Nat.{ℕ, zero, suc}
-use lib.ListN.{length, drop}
-use lib.IntN.{ℤ, pos, negsuc}
-use Rattle.units.specs.declared.MilliVolts.{MilliVolts}
-use Rattle.laws.specs.Bits.{hasBit, withBit, withBitIf}
-use Rattle.laws.specs.Each.{eachTo}
-use Rattle.protections.specs.Table.{rowAt, table}
-use Rattle.sample.specs.Cells.{bestOf, extremesOf}
-use Rattle.laws.specs.Numbered.{listOf, listFrom}
-use Rattle.sample.specs.Measure.{measure}
-use Rattle.guard.specs.Steps.{raised, protectionsOf, protectionOf, stepAllWith, stepWith, stepOne}
-use Rattle.guard_raised.specs.Words.{bitsOf, anyOf, raisedBits, anyRaised, blocksOne, blocksAny, someRaised}
-use Rattle.bleed_wants.specs.Wants.{wants}
-use Rattle.bleed_wants.specs.Word.{inWord, wordTo}
-use Rattle.bleed.specs.Walk.History.{wantsCell}
-use Rattle.bleed.specs.Walk.Balance.{bledWord}
-use Rattle.bleed_wants.specs.Steps.{tenAtMost, cellOf, wishes, wantingWord}
-use Rattle.bleed.specs.Resting.Steps.{nextCell, nextRun, nextRuns, runOf, rested, restingWord}
-use Rattle.bleed.specs.Walk.Steps.{chosenWord}
-use Rattle.pack_refusals.specs.Samples.{cellsFit, sampleRefusals, sampleVerdict, commandRefusals, commandVerdict, keptCell, trimmed}
-use Rattle.units.specs.Signed.{signedOf}
-use Rattle.laws.specs.Latest.{lastAll, among}
-use Rattle.crc.specs.CheckByte.{timesX, timesXs, withByte, remainder, checkByte}
-use Rattle.page_words.specs.Ranges.{wordAt, within, degreesFit, levelFits, levelOf}
-use Rattle.page_judge.specs.Page.{refusals, judged}
+use mathlib.Core.Bool.{cond}
+use mathlib.Core.List.{List, [], _∷_, _++_}
+use Prim.Native.Nat.{ℕ, _+_, _-_, _*_}
+use lib.IntN.{ℤ, pos}
+use lib.ListN.{replicate}
+use Rattle.page_judge.specs.Worked.{Change, workedPage, pageWith, put}
 use Rattle.refusals.specs.Answers.{answerOf}
+use Rattle.sample.specs.Cases as sample
+use Rattle.sample.specs.Cases.{minus}
+use Rattle.protections.specs.declared.Limits.{Limits}
 use Rattle.refusals.specs.declared.Verdict.the-variants.{Accepted}
-use Rattle.page_judge.specs.Worked.{workedPage, pageWith, put}
-use Rattle.sample.specs.declared.Sample.{Sample}
-use Rattle.page_settings.specs.declared.Rules.{Rules}
 use Rattle.page_settings.specs.declared.Settings.{Settings}
 use Rattle.page_settings.specs.declared.Loaded.{Loaded}
-use Rattle.page_settings.specs.Settings.{inDegrees, sampleLevel, limitsAt, limitsOf, rulesOf, settingsOf, noSettings, loadedOf}
+use Rattle.page_settings.specs.Settings.{noSettings, loadedOf}
 use Rattle.page_settings.specs.Cases.{workedRules, worked, worked-loaded}
 use Rattle.pack_state.specs.declared.Pack.{Pack}
 use Rattle.pack.specs.declared.Answered.{Answered}
 use Rattle.pack.specs.Events.{Event, offer, command, accepts}
-use Rattle.pack_state.specs.State.{wishAt, wishesOf, bledAfter, freshPack, freshBalance, nextTick, nextBalance, wantWith, acceptedPack}
-use Rattle.pack.specs.Answers.{offered, withCommand, commanded}
+use Rattle.pack_state.specs.State.{freshPack}
+use Rattle.pack.specs.Answers.{offered, commanded}
 use Rattle.pack.specs.Kept.{pageOf}
-use Rattle.demands.specs.BledWords.{bledWords}
-use Rattle.pack_shown.specs.Shown.{modeOrder, firstMode, switchesOf, modeOf, decisionOf}
+use Rattle.pack_shown.specs.Shown.{decisionOf}
+use Rattle.text_fields.specs.Quoted.{quoted}
+use Rattle.text_fields.specs.Decimal.{decimal}
+use Rattle.text_fields.specs.Fields.{fieldsOf, lineOf}
+use Rattle.text_fields.specs.Finding.{lacks}
+use Rattle.text_numbers.specs.Numbers as numbers
+use Rattle.text_numbers.specs.Numbers.{digitsTo, numberTo}
+use Rattle.guard_raised.specs.Words.{raisedWord, blocked}
+use Rattle.bleed.specs.Walk.Balance.{bledWord}
+use Rattle.pack_state.specs.State.{bledAfter}
+use Rattle.pack_shown.specs.Shown.{decisionAfter, modeAfter}
+use Rattle.log_entries.specs.Entry.{commandOf, cellsFrom, secondOf, firstOf, sampleOf, fieldsSay, entryOf}
+use Rattle.log_texts.specs.Texts.{decisionText, refusedText}
+use Rattle.demands.specs.History.{story}
+use Rattle.demands.specs.Shown.{shownWords}
+use Rattle.demands.specs.Written.{sampled, charged, computed}
 
--- ---- samples and answers, written short
-
--- Cells of the given millivolts; the entries past them are 0.
-abbrev cellsOf : ℕ → List ℕ → List MilliVolts
-cellsOf zero l = []
-cellsOf (suc k) [] = record { 0 = 0 } ∷ cellsOf k []
-cellsOf (suc k) (v ∷ l) = record { 0 = v } ∷ cellsOf k l
-
-abbrev sampled : ℤ → ℕ → ℕ → List ℕ → Event
-sampled current t1 t2 cells =
-    offer (record { count = length cells; cells = cellsOf 10 cells; current = current; t1 = record { 0 = t1 }; t2 = record { 0 = t2 } })
-
--- Charging with 500 mA at 25 °C.
-abbrev charged : List ℕ → Event
-charged cells = sampled (pos 500) 2980 2980 cells
+-- ---- answers, written short
 
 -- What a call answers: the five fields of the line, or the number of the refusal.
 abbrev told : Answered → List ℕ
@@ -86,18 +65,18 @@ numbers p (e ∷ es) = (answerOf (answer p e .verdict) .number ∷ []) ∷ numbe
 -- What is computed, and what it is to be.
 pub record Case : Type 0 where
   pub got : List (List ℕ)
-  pub want : List (List ℕ)
+  pub right : List (List ℕ)
 
 abbrev case : List (List ℕ) → List (List ℕ) → Case
-case g w = record { got = g; want = w }
+case g w = record { got = g; right = w }
 
-abbrev gotten : List Case → List (List (List ℕ))
-gotten [] = []
-gotten (c ∷ cs) = c .got ∷ gotten cs
+abbrev gotAll : List Case → List (List (List ℕ))
+gotAll [] = []
+gotAll (c ∷ cs) = c .got ∷ gotAll cs
 
-abbrev wanted : List Case → List (List (List ℕ))
-wanted [] = []
-wanted (c ∷ cs) = c .want ∷ wanted cs
+abbrev rightAll : List Case → List (List (List ℕ))
+rightAll [] = []
+rightAll (c ∷ cs) = c .right ∷ rightAll cs
 
 abbrev each : List ℕ → List (List ℕ)
 each [] = []
@@ -148,7 +127,7 @@ countCases =
     ∷ charged (4000 ∷ [])
     ∷ charged (4000 ∷ 4000 ∷ 4000 ∷ [])
     ∷ charged (4000 ∷ 4000 ∷ 4000 ∷ 4000 ∷ 4000 ∷ 4000 ∷ 4000 ∷ 4000 ∷ 4000 ∷ 4000 ∷ [])
-    ∷ offer (record { count = 255; cells = cellsOf 10 []; current = pos 0; t1 = record { 0 = 2980 }; t2 = record { 0 = 2980 } })
+    ∷ offer (sample.sampled 255 (replicate 10 0) (pos 0) 2980 2980)
     ∷ charged (6001 ∷ [])
     ∷ sampled (pos 0) 1999 2980 (4000 ∷ 6001 ∷ [])
     ∷ []))
@@ -169,113 +148,115 @@ commandCases =
     ∷ (1 ∷ 0 ∷ 0 ∷ 0 ∷ 3 ∷ [])
     ∷ [])
 
--- A pack without a page refuses every sample with 9 and every command with 16.
+-- A pack without a page refuses every sample with 9; a command of 0 to 3 is taken, and no switch goes on.
 abbrev pagelessCases : Case
 pagelessCases =
     case
-    (numbers (freshPack noSettings) (charged [] ∷ charged (4000 ∷ 4000 ∷ []) ∷ command 0 ∷ command 4 ∷ []))
-    (each (9 ∷ 9 ∷ 16 ∷ 16 ∷ []))
+    (answers (freshPack noSettings) (charged [] ∷ command 3 ∷ charged (4000 ∷ 4000 ∷ []) ∷ command 4 ∷ []))
+    ((9 ∷ []) ∷ (0 ∷ 0 ∷ 0 ∷ 0 ∷ 0 ∷ []) ∷ (9 ∷ []) ∷ (16 ∷ []) ∷ [])
 
--- The modes, in the order 4, 3, 2, 0, 7, 6, 5: under voltage has none; short beats over discharge; heat gives 0x10, then 0x11 and 0x16.
+-- The worked page with N 1, M 1 and mask 0, which "only reports", for every protection.
+abbrev reports : ℤ → ℤ → Limits
+reports trip release = record { trip = trip; release = release; n = 1; m = 1; mask = 0 }
+
+abbrev reporting : Settings
+reporting =
+    record {
+      rules = workedRules;
+      limits =
+          reports (pos 4250) (pos 4150)
+          ∷ reports (pos 2500) (pos 2600)
+          ∷ reports (pos 3000) (pos 2500)
+          ∷ reports (minus 5000) (minus 4000)
+          ∷ reports (minus 20000) (minus 100)
+          ∷ reports (pos 3180) (pos 3130)
+          ∷ reports (pos 3330) (pos 3280)
+          ∷ reports (pos 3530) (pos 3430)
+          ∷ [];
+    }
+
+-- The modes, in the order 4, 3, 2, 0, 7, 6, 5: samples 2 to 8 raise 5, 6, 7, 0, 2, 3 and 4, one after the other, and each shows the number
+-- of the one just raised, since it comes first. At sample 9 only 1 is raised, which has no number. With masks of 0 both switches stay on,
+-- and still nothing is bled while one is raised, though cell 2 is high enough at every sample.
 abbrev modeCases : Case
 modeCases =
     case
-    (answers (freshPack worked)
-    (sampled (negsuc 19999) 3330 3530 (2500 ∷ 4250 ∷ [])
-    ∷ sampled (negsuc 19999) 3330 3530 (2500 ∷ 4250 ∷ [])
-    ∷ sampled (pos 3000) 3330 3530 (2500 ∷ 4250 ∷ [])
-    ∷ sampled (pos 3000) 3330 3530 (2500 ∷ 4250 ∷ [])
+    (answers (freshPack reporting)
+    (command 3
+    ∷ charged (4000 ∷ 4020 ∷ [])
+    ∷ sampled (pos 500) 3180 2980 (4000 ∷ 4020 ∷ [])
+    ∷ sampled (pos 500) 3330 2980 (4000 ∷ 4020 ∷ [])
+    ∷ sampled (pos 500) 3330 3530 (4000 ∷ 4020 ∷ [])
+    ∷ sampled (pos 500) 3330 3530 (4000 ∷ 4250 ∷ [])
+    ∷ sampled (pos 3000) 3330 3530 (4000 ∷ 4250 ∷ [])
+    ∷ sampled (minus 5000) 3330 3530 (4000 ∷ 4250 ∷ [])
+    ∷ sampled (minus 20000) 3330 3530 (4000 ∷ 4250 ∷ [])
+    ∷ charged (2500 ∷ 4020 ∷ [])
+    ∷ charged (4000 ∷ 4020 ∷ [])
     ∷ []))
-    ((1 ∷ 0 ∷ 0 ∷ 0 ∷ 2 ∷ [])
-    ∷ (2 ∷ 251 ∷ 0 ∷ 0 ∷ 0x14 ∷ [])
-    ∷ (3 ∷ 251 ∷ 0 ∷ 0 ∷ 0x14 ∷ [])
-    ∷ (4 ∷ 231 ∷ 0 ∷ 0 ∷ 0x12 ∷ [])
-    ∷ [])
-
--- (*) Three cells, K 1, R 1, as real voltages: who wants at samples 3 to 7 is {1,2}, {1,3}, {1,2}, {1,3}, {1,2}. Bled: 1, 3, 2, 3, 1.
-abbrev threeRules : Rules
-threeRules =
-    record {
-      n = 3;
-      k = 1;
-      r = 1;
-      floor = workedRules .floor;
-      difference = workedRules .difference;
-      detection = workedRules .detection;
-      voltage = workedRules .voltage;
-      current = workedRules .current;
-    }
-
-abbrev three : Settings
-three = record { rules = threeRules; limits = worked .limits }
-
-abbrev quiet : Event
-quiet = charged (4000 ∷ 4000 ∷ 4000 ∷ [])
-
-abbrev oneTwo : Event
-oneTwo = charged (4100 ∷ 4100 ∷ 4000 ∷ [])
-
-abbrev oneThree : Event
-oneThree = charged (4100 ∷ 4000 ∷ 4100 ∷ [])
-
-abbrev waitCases : Case
-waitCases =
-    case
-    (answers (freshPack three) (quiet ∷ quiet ∷ oneTwo ∷ oneThree ∷ oneTwo ∷ oneThree ∷ oneTwo ∷ []))
-    ((1 ∷ 0 ∷ 0 ∷ 0 ∷ 3 ∷ [])
-    ∷ (2 ∷ 0 ∷ 0 ∷ 0 ∷ 3 ∷ [])
-    ∷ (3 ∷ 0 ∷ 0 ∷ 1 ∷ 3 ∷ [])
-    ∷ (4 ∷ 0 ∷ 0 ∷ 4 ∷ 3 ∷ [])
-    ∷ (5 ∷ 0 ∷ 0 ∷ 2 ∷ 3 ∷ [])
-    ∷ (6 ∷ 0 ∷ 0 ∷ 4 ∷ 3 ∷ [])
-    ∷ (7 ∷ 0 ∷ 0 ∷ 1 ∷ 3 ∷ [])
+    ((0 ∷ 0 ∷ 0 ∷ 0 ∷ 0 ∷ [])
+    ∷ (1 ∷ 0 ∷ 3 ∷ 2 ∷ 0x03 ∷ [])
+    ∷ (2 ∷ 32 ∷ 3 ∷ 0 ∷ 0x10 ∷ [])
+    ∷ (3 ∷ 96 ∷ 3 ∷ 0 ∷ 0x11 ∷ [])
+    ∷ (4 ∷ 224 ∷ 3 ∷ 0 ∷ 0x16 ∷ [])
+    ∷ (5 ∷ 225 ∷ 3 ∷ 0 ∷ 0x15 ∷ [])
+    ∷ (6 ∷ 229 ∷ 3 ∷ 0 ∷ 0x12 ∷ [])
+    ∷ (7 ∷ 233 ∷ 3 ∷ 0 ∷ 0x13 ∷ [])
+    ∷ (8 ∷ 249 ∷ 3 ∷ 0 ∷ 0x14 ∷ [])
+    ∷ (9 ∷ 2 ∷ 3 ∷ 0 ∷ 0x03 ∷ [])
+    ∷ (10 ∷ 0 ∷ 3 ∷ 2 ∷ 0x03 ∷ [])
     ∷ [])
 
 abbrev pub cases : List Case
-cases = replay ∷ limitCases ∷ countCases ∷ commandCases ∷ pagelessCases ∷ modeCases ∷ waitCases ∷ []
+cases = replay ∷ limitCases ∷ countCases ∷ commandCases ∷ pagelessCases ∷ modeCases ∷ []
 
 -- Every case gives what it is to give.
-pub cases-pass : gotten cases ≡ wanted cases
-unfolding freshPack freshBalance offered commanded withCommand acceptedPack nextBalance wantWith nextTick decisionOf switchesOf modeOf
-    modeOrder firstMode sampleVerdict sampleRefusals cellsFit commandVerdict commandRefusals trimmed keptCell within protectionsOf
-    protectionOf stepAllWith stepWith stepOne listOf listFrom eachTo extremesOf bestOf rowAt table raisedBits anyRaised blocksAny blocksOne
-    bitsOf anyOf hasBit withBit withBitIf wants inWord wordTo tenAtMost cellOf runOf wishes wantingWord rested restingWord nextCell nextRun
-    nextRuns chosenWord noSettings
+pub cases-pass : gotAll cases ≡ rightAll cases
+unfolding computed
 cases-pass = refl
 
--- ---- the pages of these cases are accepted
+-- Of an accepted sample, a refused one and a command only the first is listed.
+pub listed : shownWords workedPage (command 3 ∷ charged (4100 ∷ []) ∷ charged (4000 ∷ 4020 ∷ []) ∷ []) ≡ 2 ∷ []
+unfolding computed
+listed = refl
 
--- The page of the three cells: the worked page with 3 in word 1 and 1 in word 3.
-abbrev pub threePage : List ℕ
-threePage = pageWith (put 1 3 ∷ put 3 1 ∷ [])
+-- Document 01's log once more: what document 01 says of each line behind the lines before it, by the page and the history alone.
+pub lines-said
+    : story workedPage []
+    (quoted "F\t3"
+    ∷ quoted "S\t500\t2980\t2980\t4000\t4020"
+    ∷ quoted "S\t500\t2980\t2980\t4260\t4100"
+    ∷ quoted "S\t500\t2980\t2980\t4260\t4100"
+    ∷ quoted "S\t500\t2980\t2980\t4100"
+    ∷ quoted "S\t500"
+    ∷ [])
+    ≡ quoted "0\t0\t0\t0\t0\n1\t0\t3\t2\t3\n2\t0\t3\t1\t3\n3\t1\t2\t0\t21\nrefused\t9\nrefused\t17\n"
+unfolding computed decisionAfter modeAfter raisedWord blocked bledAfter bledWord story decisionText refusedText decimal fieldsOf lineOf lacks
+    digitsTo numberTo numbers.signedOf entryOf commandOf cellsFrom secondOf firstOf sampleOf fieldsSay
+lines-said = refl
+
+-- ---- the settings of these cases are those of accepted pages
 
 pub worked-is : pageOf workedPage ≡ worked
 worked-is = ap (λ (l : Loaded). l .settings) worked-loaded
 
-pub three-is : loadedOf threePage ≡ record { verdict = Accepted; settings = three }
-unfolding loadedOf settingsOf rulesOf limitsOf limitsAt sampleLevel inDegrees levelOf signedOf judged refusals wordAt within degreesFit
-    levelFits rowAt table checkByte remainder withByte timesXs timesX
-three-is = refl
+-- Protection p with these two words for its levels, N 1, M 1 and mask 0.
+abbrev reporter : ℕ → ℕ → ℕ → List Change
+reporter p trip release =
+    put (16 + 5 * p) trip ∷ put (17 + 5 * p) release ∷ put (18 + 5 * p) 1 ∷ put (19 + 5 * p) 1 ∷ put (20 + 5 * p) 0 ∷ []
 
--- ---- the third demand is not empty, and n samples are too few
+abbrev reportingPage : List ℕ
+reportingPage =
+    pageWith
+    (reporter 0 4250 4150
+    ++ reporter 1 2500 2600
+    ++ reporter 2 3000 2500
+    ++ reporter 3 (65536 - 5000) (65536 - 4000)
+    ++ reporter 4 (65536 - 20000) (65536 - 100)
+    ++ reporter 5 45 40
+    ++ reporter 6 60 55
+    ++ reporter 7 80 70)
 
-abbrev kept : List Event → List Sample
-kept [] = []
-kept (offer s ∷ es) = s ∷ kept es
-kept (command c ∷ es) = kept es
-
--- The samples of the three cells, the latest first.
-abbrev waited : List Sample
-waited = kept (oneTwo ∷ oneThree ∷ oneTwo ∷ oneThree ∷ oneTwo ∷ quiet ∷ quiet ∷ [])
-
--- Cell 1 wants at the last four samples, n + 1, and is bled at the last of them; at the three before, n of them, it gets nothing.
-pub four-wait : (lastAll 4 (wantsCell 1) (wishesOf three waited) ≡ true) × (among 4 (λ w. inWord w 1) (bledWords three waited) ≡ 1)
-unfolding wishesOf wishAt someRaised raised bledAfter bledWord measure extremesOf bestOf rowAt table anyOf hasBit withBit withBitIf wants
-    wishes cellOf inWord
-four-wait = (refl, refl)
-
-pub three-too-few : (lastAll 3 (wantsCell 1) (drop 1 (wishesOf three waited)) ≡ true)
-    × (among 3 (λ w. inWord w 1) (drop 1 (bledWords three waited)) ≡ 0)
-unfolding wishesOf wishAt someRaised raised bledAfter bledWord measure extremesOf bestOf rowAt table anyOf hasBit withBit withBitIf wants
-    wishes cellOf inWord
-three-too-few = (refl, refl)
+pub reporting-is : loadedOf reportingPage ≡ record { verdict = Accepted; settings = reporting }
+unfolding computed
+reporting-is = refl

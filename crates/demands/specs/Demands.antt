@@ -1,170 +1,307 @@
--- THE THREE DEMANDS, for a pack: after a load of any bytes and any events since, refused samples and commands among them. Lists
--- have the latest first. The page judge's part of the first demand is in crate page (Exactly, Swapped).
+-- THE THREE DEMANDS: the user's sentences, one after the other, and under each the theorem that says it. They speak of what the public
+-- calls answer and show: `judged` of a page; `offered`, `commanded` and `repliedTo` of a pack; `tell` of a line; and `shown`, which is
+-- what `decide` shows after a load of any bytes and any calls since, refused ones among them. Lists have the latest first.
 -- Assumes nothing.
-use mathlib.Core.Path.{_≡_, refl, ap, _∙_}
-use mathlib.Core.Bool.{true, false}
-use mathlib.Core.List.{List, [], _∷_}
+use mathlib.Core.Path.{_≡_, ap, _∙_}
+use mathlib.Core.Bool.{true, false, not}
+use mathlib.Core.List.{List, [], _∷_, _++_}
 use mathlib.Core.Logic.{_↔_}
-use Prim.Native.Nat.{ℕ, zero, suc, _-_, _≤_, _<_}
+use Prim.Native.Nat.{ℕ, suc, _+_, _*_, _≤_, _<_}
 use native.Mathlib.Omega.{arith}
-use lib.Count.{ones, onesIn}
-use lib.ListN.{drop, getD}
-use Rattle.laws.specs.Tests.{clash}
-use Rattle.laws.specs.Bits.{hasBit, has-zero}
-use Rattle.laws.specs.Latest.{lastAll, among}
+use native.Mathlib.Nat.{lt-of-lt-of-le}
+use lib.Count.{ones}
+use lib.ListN.{length, drop, getD}
+use Rattle.laws.specs.Bits.{hasBit}
+use Rattle.laws.specs.Latest.{lastAll, among, lastAll-le, among-le}
 use Rattle.protections.specs.Table.{rowAt, protections}
-use Rattle.page_judge.specs.Page.{judged}
-use Rattle.refusals.specs.Refusals.{NoFault, Lowest, none-exactly, refuse-exactly}
-use Rattle.page_judge.specs.Exactly.{refused-not, refused-one}
+use Rattle.refusals.specs.Refusals.{NoFault, Lowest}
 use Rattle.refusals.specs.declared.Verdict.the-variants.{Accepted, Refused}
-use Rattle.sample.specs.declared.Sample.{Sample}
-use Rattle.guard.specs.Steps.{raised, limitsAt}
-use Rattle.guard_raised.specs.Words.{raisedWord-has}
-use Rattle.pack_refusals.specs.Samples.{sampleRefusals, sampleVerdict, commandRefusals, commandVerdict}
-use Rattle.page_settings.specs.declared.Settings.{Settings}
+use Rattle.page_words.specs.Ranges.{wordAt}
+use Rattle.page_judge.specs.Page.{refusals, judged}
+use Rattle.page_judge.specs.Exactly as page
+use Rattle.page_judge.specs.Swapped.{swapped, swapped-refused}
+use Rattle.page_settings.specs.Settings.{limitsFrom}
 use Rattle.page_settings.specs.Good.{Good, accepted-good}
-use Rattle.bleed.specs.Walk.Walk.{has}
-use Rattle.bleed.specs.Walk.History.{bleds}
+use Rattle.sample.specs.declared.Sample.{Sample}
+use Rattle.sample.specs.Measure.{trips, qualifies}
+use Rattle.guard_raised.specs.Words.{raisedWord}
 use Rattle.bleed_wants.specs.Word.{inWord}
 use Rattle.bleed.specs.Walk.History.{wantsCell}
-use Rattle.bleed.specs.Walk.Demand.{fair-anywhere, never-over-R}
-use Rattle.bleed.specs.Walk.Balance.{bled-few, bled-apart}
+use Rattle.pack_refusals.specs.Samples.{sampleRefusals, commandRefusals}
 use Rattle.pack_state.specs.declared.Pack.{Pack}
-use Rattle.pack_shown.specs.declared.Decision.{Decision}
-use Rattle.pack.specs.Events.{Event}
-use Rattle.pack_state.specs.State.{wishesOf, bledAfter}
+use Rattle.pack_state.specs.State.{bledAfter}
+use Rattle.pack_state.specs.Steps.{wishes-length}
+use Rattle.pack.specs.Events.{Event, offer, command}
 use Rattle.pack.specs.Answers.{offered, commanded}
-use Rattle.pack.specs.Kept.{pageOf, pastAfter, stateAfter}
-use Rattle.pack_shown.specs.Shown.{switchAfter, decisionAfter, switchOn, decisionOf}
+use Rattle.pack.specs.Kept.{pageOf, pastAfter, stateAfter, afterLoad}
 use Rattle.pack.specs.Calls.{page-accepted}
 use Rattle.pack.specs.After.{after, after-is}
-use Rattle.pack_shown.specs.Decided.{decision-is, switch-is}
-use Rattle.demands.specs.BledWords.{bledWords, alike-drop, alike-among, alike-last, some, ten, words-alike}
+use Rattle.pack_shown.specs.declared.Decision.{Decision}
+use Rattle.pack_shown.specs.Shown.{switchAfter, switchesWord, decisionAfter}
+use Rattle.bus_table.specs.Table.{rowOf}
+use Rattle.bus_words.specs.Words.{sentWord, saidOf, wordAfter}
+use Rattle.bus_words.specs.Demands.{word-is}
+use Rattle.bus.specs.declared.answer.Replied.the-variants as reply
+use Rattle.bus.specs.Replies.{replyRefusals, repliedTo, repliedAfter, bytesAfter, bufferAfter}
+use Rattle.bus.specs.Demands as bus
+use Rattle.log_entries.specs.Entry.{entryOf}
+use Rattle.log_lines.specs.Lines.{linesOf}
+use Rattle.log_answers.specs.declared.Told.the-variants as told
+use Rattle.log_answers.specs.Says.{says, line-told}
+use Rattle.log_answers.specs.Tell.{tell}
+use Rattle.log_answers.specs.Seventeen.{isSeventeen, isMalformed, seventeen-exactly}
+use Rattle.log_texts.specs.Texts.{headerText}
+use Rattle.log.specs.Replay.{replayed}
+use Rattle.demands.specs.Answers as answers
+use Rattle.demands.specs.Answers.{IsAnswered, IsReplied, is-answered, is-replied}
+use Rattle.demands.specs.BledWords.{bledWords, words-fair, words-run, words-apart, words-few}
+use Rattle.demands.specs.History.{story, replay-says}
+use Rattle.demands.specs.Shown.{shown, shownWords, samples, wanted, MayBeOn, word-1, word-2, word-3}
+use Rattle.demands.specs.Shown.{shown-is, shown-balance, shown-words, shown-each, raise-when, release-when, on-exactly, raised-stops}
+use Rattle.demands.specs.Shown.{clear-at-load, command-raises-none}
+use Rattle.demands.specs.TooFew.{waiting, too-few}
+use Rattle.demands.specs.TwoCells.{two-suffice}
+use Rattle.demands.specs.Written.{pageFor}
 
--- ---- DEMAND 1. "Any page, sample, command or log line gets an answer. Each refusal in document 01 is given exactly when its row
--- says and no lower number applies. It leaves the pack state and every lent buffer untouched."
+-- ==== DEMAND 1
 
--- A sample is accepted exactly if no row of the table applies,
-pub sample-accepted-exactly : (n : ℕ) (s : Sample) → (sampleVerdict n s ≡ Accepted) ↔ NoFault (sampleRefusals n s)
-unfolding sampleVerdict sampleRefusals
-sample-accepted-exactly n s = none-exactly Refused Accepted refused-not refused-one 0 (sampleRefusals n s) refl
+-- ---- "Any page, sample, command or log line gets an answer."
 
--- and refused with a number exactly if its row applies and no lower row does.
-pub sample-refused-exactly : (n : ℕ) (s : Sample) (k w : ℕ) → (sampleVerdict n s ≡ Refused k w) ↔ Lowest (sampleRefusals n s) k w
-unfolding sampleVerdict sampleRefusals
-sample-refused-exactly n s k w = refuse-exactly Refused Accepted refused-not refused-one 0 (sampleRefusals n s) refl k w
+-- A page: accepted, or refused by rows 1 to 8.
+pub demand-1-page : (bytes : List ℕ) → IsAnswered (judged bytes) (refusals bytes)
+demand-1-page b = is-answered (judged b) (refusals b) (page.accepted-exactly b) (page.refused-exactly b)
 
--- The same for a switch command.
-pub command-accepted-exactly : (n c : ℕ) → (commandVerdict n c ≡ Accepted) ↔ NoFault (commandRefusals n c)
-unfolding commandVerdict commandRefusals
-command-accepted-exactly n c = none-exactly Refused Accepted refused-not refused-one 0 (commandRefusals n c) refl
+-- A sample that is offered to a pack: accepted, or refused by rows 9 to 11.
+pub demand-1-sample : (p : Pack) (s : Sample) → IsAnswered (offered p s .verdict) (sampleRefusals (p .rules .n) s)
+demand-1-sample p s = is-answered _ _ (answers.sample-accepted-exactly p s) (answers.sample-refused-exactly p s)
 
-pub command-refused-exactly : (n c k w : ℕ) → (commandVerdict n c ≡ Refused k w) ↔ Lowest (commandRefusals n c) k w
-unfolding commandVerdict commandRefusals
-command-refused-exactly n c k w = refuse-exactly Refused Accepted refused-not refused-one 0 (commandRefusals n c) refl k w
+-- A switch command: accepted, or refused by row 16.
+pub demand-1-command : (p : Pack) (c : ℕ) → IsAnswered (commanded p c .verdict) (commandRefusals c)
+demand-1-command p c = is-answered _ _ (answers.command-accepted-exactly p c) (answers.command-refused-exactly p c)
 
--- A refused sample leaves the state as it was, every field; so does a refused command.
-pub refused-sample-untouched : (p : Pack) (s : Sample) (k w : ℕ) → offered p s .verdict ≡ Refused k w → offered p s .pack ≡ p
-unfolding offered
-refused-sample-untouched p s k w e = rw e
+-- A command on the bus, with a buffer of any length: sent, or refused by rows 12 to 15.
+pub demand-1-reply : (p : Pack) (c room : ℕ) → IsReplied (repliedTo p c room) (replyRefusals (p .rules .n) (p .sampled) c room)
+unfolding repliedTo
+demand-1-reply p c room =
+    is-replied _ _ (bus.sent-exactly (p .rules .n) (p .sampled) c room) (bus.refused-exactly (p .rules .n) (p .sampled) c room)
 
-pub refused-command-untouched : (p : Pack) (c k w : ℕ) → commanded p c .verdict ≡ Refused k w → commanded p c .pack ≡ p
-unfolding commanded
-refused-command-untouched p c k w e = rw e
+-- A line of the log behind any events: 17, or what document 01 says of its sample or its command (`says`).
+pub demand-1-line : (bytes : List ℕ) (es : List Event) (line : List ℕ) → tell (after bytes es) line .told ≡ says bytes es line
+demand-1-line = line-told
 
--- ---- DEMAND 2. "Protections, switches, balance choices, status words and bus replies are what document 01 says of the page and
--- the history, since its load, of accepted samples and switch commands."
+-- ---- "Each refusal in document 01 is given exactly when its row says and no lower number applies."
 
--- The pack after a load and any calls is in the state that the page and the past say, every field of it.
-pub demand-2-state : (bytes : List ℕ) (es : List Event) → after bytes es ≡ stateAfter bytes es
-demand-2-state = after-is
+-- A page, with the lowest word at fault.
+pub demand-1-page-accepted : (bytes : List ℕ) → (judged bytes ≡ Accepted) ↔ NoFault (refusals bytes)
+demand-1-page-accepted = page.accepted-exactly
 
--- What it decides, the five fields of a line of the replay, is document 01's.
-pub demand-2-decision : (bytes : List ℕ) (es : List Event) → decisionOf (after bytes es) ≡ decisionAfter (pageOf bytes) (pastAfter bytes es)
-unfolding stateAfter
-demand-2-decision bytes es = ap decisionOf (after-is bytes es) ∙ decision-is (pageOf bytes) (pastAfter bytes es)
+pub demand-1-page-refused : (bytes : List ℕ) (k w : ℕ) → (judged bytes ≡ Refused k w) ↔ Lowest (refusals bytes) k w
+demand-1-page-refused = page.refused-exactly
 
--- "A commanded switch is on exactly when a sample has been accepted and no raised protection blocks it."
-pub demand-2-switch : (bytes : List ℕ) (es : List Event) (switch : ℕ)
-    → switchOn (after bytes es) switch ≡ switchAfter (pageOf bytes) (pastAfter bytes es) switch
-unfolding stateAfter
-demand-2-switch bytes es switch = ap (λ (p : Pack). switchOn p switch) (after-is bytes es) ∙ switch-is (pageOf bytes) (pastAfter bytes es) switch
+-- A sample.
+pub demand-1-sample-accepted : (p : Pack) (s : Sample) → (offered p s .verdict ≡ Accepted) ↔ NoFault (sampleRefusals (p .rules .n) s)
+demand-1-sample-accepted = answers.sample-accepted-exactly
 
--- Bit p of its raised word is set exactly if protection p is raised by the history: clear and its last N samples all trip, or raised
--- before and not its last M all qualify (crate guard, Runs.raised).
-pub demand-2-raised : (bytes : List ℕ) (es : List Event) (p : ℕ) → p < protections
-    → hasBit (decisionOf (after bytes es) .raised) p
-    ≡ raised (rowAt p) (limitsAt (pageOf bytes .limits) p) (pastAfter bytes es .history)
-unfolding decisionAfter
-demand-2-raised bytes es p inside =
-    ap (λ (d : Decision). hasBit (d .raised) p) (demand-2-decision bytes es) ∙ raisedWord-has (pageOf bytes .limits) (pastAfter bytes es .history) p inside
+pub demand-1-sample-refused : (p : Pack) (s : Sample) (k w : ℕ)
+    → (offered p s .verdict ≡ Refused k w) ↔ Lowest (sampleRefusals (p .rules .n) s) k w
+demand-1-sample-refused = answers.sample-refused-exactly
 
--- ---- DEMAND 3. "From a fresh load, over any history, a cell that wants bleeding at n + 1 consecutive accepted samples, n being the
--- number of cells, is bled in at least one of them, whatever the other cells do. No cell is bled at more than R accepted samples in
--- a row. Never are two neighbours bled at once, nor more than K cells."
+-- A switch command.
+pub demand-1-command-accepted : (p : Pack) (c : ℕ) → (commanded p c .verdict ≡ Accepted) ↔ NoFault (commandRefusals c)
+demand-1-command-accepted = answers.command-accepted-exactly
 
--- The first of them is the state's.
-pub bled-is : (bytes : List ℕ) (s : Sample) (h : List Sample) (es : List Event) → pastAfter bytes es .history ≡ s ∷ h
-    → decisionOf (after bytes es) .balance ≡ getD (bledWords (pageOf bytes) (pastAfter bytes es .history)) 0 0
-unfolding decisionAfter
-bled-is bytes s h es e = ap (λ (d : Decision). d .balance) (demand-2-decision bytes es) ∙ rw e
+pub demand-1-command-refused : (p : Pack) (c k w : ℕ)
+    → (commanded p c .verdict ≡ Refused k w) ↔ Lowest (commandRefusals c) k w
+demand-1-command-refused = answers.command-refused-exactly
 
-module _ (page : Settings) (good : Good page) where
-  -- Cell k wants at n + 1 accepted samples in a row, j samples before the latest: it is bled in at least one of them.
-  pub fair : (k : ℕ) → 1 ≤ k → k ≤ page .rules .n → (j : ℕ) (h : List Sample)
-      → lastAll (suc (page .rules .n)) (wantsCell k) (drop j (wishesOf page h)) ≡ true
-      → 0 < among (suc (page .rules .n)) (λ w. inWord w k) (drop j (bledWords page h))
-  fair k first last j h wanting =
-      rw (alike-among (λ w. inWord w k) (has k) (suc (page .rules .n)) (drop j (bledWords page h)) (drop j (bleds (page .rules .n) (page .rules .k) (page .rules .r) (wishesOf page h)))
-      (alike-drop (λ w. inWord w k) (has k) j (bledWords page h) (bleds (page .rules .n) (page .rules .k) (page .rules .r) (wishesOf page h)) (words-alike page good k first h)))
-      (fair-anywhere (page .rules .n) (page .rules .k) (page .rules .r) (good .k .0) (good .r .0) k first last j (wishesOf page h) wanting)
+-- A command on the bus.
+pub demand-1-reply-sent : (p : Pack) (c room : ℕ)
+    → (repliedTo p c room ≡ reply.Sent) ↔ NoFault (replyRefusals (p .rules .n) (p .sampled) c room)
+unfolding repliedTo
+demand-1-reply-sent p = bus.sent-exactly (p .rules .n) (p .sampled)
 
-  -- No cell is bled at more than R accepted samples in a row.
-  pub not-over-R : (k : ℕ) → 1 ≤ k → (j : ℕ) (h : List Sample)
-      → lastAll (suc (page .rules .r)) (λ w. inWord w k) (drop j (bledWords page h)) ≡ false
-  not-over-R k first j h =
-      alike-last (λ w. inWord w k) (has k) (suc (page .rules .r)) (drop j (bledWords page h)) (drop j (bleds (page .rules .n) (page .rules .k) (page .rules .r) (wishesOf page h)))
-      (alike-drop (λ w. inWord w k) (has k) j (bledWords page h) (bleds (page .rules .n) (page .rules .k) (page .rules .r) (wishesOf page h)) (words-alike page good k first h))
-      ∙ never-over-R (page .rules .n) (page .rules .k) (page .rules .r) k j (wishesOf page h)
+pub demand-1-reply-refused : (p : Pack) (c room k : ℕ)
+    → (repliedTo p c room ≡ reply.Refused k) ↔ Lowest (replyRefusals (p .rules .n) (p .sampled) c room) k 0
+unfolding repliedTo
+demand-1-reply-refused p = bus.refused-exactly (p .rules .n) (p .sampled)
 
-  -- Never are two neighbours bled at once: bits i and i + 1 stand for cells i + 1 and i + 2.
-  pub not-neighbours : (i j : ℕ) (h : List Sample) → hasBit (getD (bledWords page h) j 0) i ≡ true
-      → hasBit (getD (bledWords page h) j 0) (suc i) ≡ true → ⊥
-  unfolding bledAfter
-  not-neighbours i j [] a b = clash a (has-zero i)
-  not-neighbours i zero (s ∷ h) a b = bled-apart (page .rules .n) (page .rules .k) (page .rules .r) (some page good) (ten page good) (wishesOf page (s ∷ h)) i a b
-  not-neighbours i (suc j) (s ∷ h) a b = not-neighbours i j h a b
+-- A line of the log: 17 exactly if it is malformed, in any pack.
+pub demand-1-line-malformed : (p : Pack) (line : List ℕ) → isSeventeen (tell p line .told) ≡ isMalformed (entryOf line .kind)
+demand-1-line-malformed = seventeen-exactly
 
-  -- Nor more than K cells.
-  pub not-over-K : (j : ℕ) (h : List Sample) → ones (getD (bledWords page h) j 0) ≤ page .rules .k
-  unfolding bledAfter ones onesIn
-  not-over-K j [] = omega arith
-  not-over-K zero (s ∷ h) = bled-few (page .rules .n) (page .rules .k) (page .rules .r) (wishesOf page (s ∷ h))
-  not-over-K (suc j) (s ∷ h) = not-over-K j h
+-- ---- "It leaves the pack state and every lent buffer untouched."
 
--- The same for every accepted page and all events since its load.
-module _ (bytes : List ℕ) (taken : judged bytes ≡ Accepted) (es : List Event) where
-  abbrev said : Settings
-  said = pageOf bytes
+pub demand-1-sample-untouched : (p : Pack) (s : Sample) (k w : ℕ) → offered p s .verdict ≡ Refused k w → offered p s .pack ≡ p
+demand-1-sample-untouched = answers.refused-sample-untouched
 
-  good : Good said
-  good = rw (page-accepted bytes taken) (accepted-good bytes taken)
+pub demand-1-command-untouched : (p : Pack) (c k w : ℕ) → commanded p c .verdict ≡ Refused k w → commanded p c .pack ≡ p
+demand-1-command-untouched = answers.refused-command-untouched
 
-  abbrev samples : List Sample
-  samples = pastAfter bytes es .history
+pub demand-1-line-untouched : (p : Pack) (line : List ℕ) (k : ℕ) → tell p line .told ≡ told.Refused k → tell p line .pack ≡ p
+demand-1-line-untouched = answers.refused-line-untouched
 
-  pub demand-3-wait : (k : ℕ) → 1 ≤ k → k ≤ said .rules .n → (j : ℕ)
-      → lastAll (suc (said .rules .n)) (wantsCell k) (drop j (wishesOf said samples)) ≡ true
-      → 0 < among (suc (said .rules .n)) (λ w. inWord w k) (drop j (bledWords said samples))
-  demand-3-wait k first last j = fair said good k first last j samples
+-- The reply buffer, of any length. Pages, lines and the pack of a reply are lent to be read only.
+pub demand-1-buffer-untouched : (p : Pack) (c k : ℕ) (buffer : List ℕ)
+    → repliedTo p c (length buffer) ≡ reply.Refused k → bytesAfter p c buffer ≡ buffer
+demand-1-buffer-untouched = bus.refused-untouched
 
-  pub demand-3-run : (k : ℕ) → 1 ≤ k → (j : ℕ)
-      → lastAll (suc (said .rules .r)) (λ w. inWord w k) (drop j (bledWords said samples)) ≡ false
-  demand-3-run k first j = not-over-R said good k first j samples
+-- ---- "If a page is taken, the same page with all its byte pairs swapped is refused."
 
-  pub demand-3-neighbours : (i j : ℕ) → hasBit (getD (bledWords said samples) j 0) i ≡ true
-      → hasBit (getD (bledWords said samples) j 0) (suc i) ≡ true → ⊥
-  demand-3-neighbours i j = not-neighbours said good i j samples
+-- Of bytes, each below 256; with number 2.
+pub demand-1-swapped : (bytes : List ℕ) → ((i : ℕ) → getD bytes i 0 < 256)
+    → judged bytes ≡ Accepted → judged (swapped bytes) ≡ Refused 2 0
+demand-1-swapped = swapped-refused
 
-  pub demand-3-most : (j : ℕ) → ones (getD (bledWords said samples) j 0) ≤ said .rules .k
-  demand-3-most j = not-over-K said good j samples
+-- ==== DEMAND 2
+
+module _ (bytes : List ℕ) (es : List Event) where
+  -- ---- "Protections, switches, balance choices, status words and bus replies are what document 01 says of the page and the history,
+  -- since its load, of accepted samples and switch commands."
+
+  -- The state, every field of it.
+  pub demand-2-state : after bytes es ≡ stateAfter bytes es
+  demand-2-state = after-is bytes es
+
+  -- The five fields of a decision: tick, raised, fets, balance and mode.
+  pub demand-2-decision : shown bytes es ≡ decisionAfter (pageOf bytes) (pastAfter bytes es)
+  demand-2-decision = shown-is bytes es
+
+  -- Protections,
+  pub demand-2-protections : shown bytes es .raised ≡ raisedWord (pageOf bytes .limits) (samples bytes es)
+  unfolding decisionAfter
+  demand-2-protections = ap (λ (d : Decision). d .raised) (shown-is bytes es)
+
+  -- switches,
+  pub demand-2-switches : shown bytes es .fets ≡ switchesWord (switchAfter (pageOf bytes) (pastAfter bytes es))
+  unfolding decisionAfter
+  demand-2-switches = ap (λ (d : Decision). d .fets) (shown-is bytes es)
+
+  -- balance choices;
+  pub demand-2-balance : shown bytes es .balance ≡ bledAfter (pageOf bytes) (samples bytes es)
+  demand-2-balance = shown-balance bytes es
+
+  -- while any protection is raised, whatever its mask, nothing is bled.
+  pub demand-2-raised-stops : (shown bytes es .raised ≡ 0 → ⊥) → shown bytes es .balance ≡ 0
+  demand-2-raised-stops = raised-stops bytes es
+
+  -- Status words: the word of every command on the bus, battery status (0x16), mode (0x41) and 0x45 among them.
+  pub demand-2-word : (c : ℕ) → sentWord (saidOf (after bytes es)) (rowOf c) ≡ wordAfter (pageOf bytes) (pastAfter bytes es) c
+  demand-2-word = word-is bytes es
+
+  -- Bus replies: the answer to every command, with a buffer of any length,
+  pub demand-2-reply : (c room : ℕ) → repliedTo (after bytes es) c room ≡ repliedAfter (pageOf bytes) (pastAfter bytes es) c room
+  demand-2-reply = bus.answer-is bytes es
+
+  -- and what then stands in the buffer.
+  pub demand-2-buffer : (c : ℕ) (buffer : List ℕ)
+      → bytesAfter (after bytes es) c buffer ≡ bufferAfter (pageOf bytes) (pastAfter bytes es) c buffer
+  demand-2-buffer = bus.buffer-is bytes es
+
+  module _ (s : Sample) (taken : offered (after bytes es) s .verdict ≡ Accepted) (p : ℕ) (inside : p < protections) where
+    -- ---- "A clear protection is raised exactly when its last N samples all trip,"
+
+    -- At one more accepted sample, the latest of the last N. N is word 18 + 5p of the page.
+    pub demand-2-raised : hasBit (shown bytes es .raised) p ≡ false
+        → hasBit (shown bytes (offer s ∷ es) .raised) p
+        ≡ lastAll (wordAt bytes (18 + 5 * p)) (trips (rowAt p) (limitsFrom bytes p)) (samples bytes (offer s ∷ es))
+    demand-2-raised = raise-when bytes es s taken p inside
+
+    -- ---- "a raised one released exactly when its last M all qualify."
+
+    -- M is word 19 + 5p of the page.
+    pub demand-2-released : hasBit (shown bytes es .raised) p ≡ true
+        → hasBit (shown bytes (offer s ∷ es) .raised) p
+        ≡ not (lastAll (wordAt bytes (19 + 5 * p)) (qualifies (rowAt p) (limitsFrom bytes p)) (samples bytes (offer s ∷ es)))
+    demand-2-released = release-when bytes es s taken p inside
+
+  -- At the load all are clear, and neither a refused sample (`demand-1-sample-untouched`) nor a command raises or releases one.
+  pub demand-2-clear-at-load : shown bytes [] .raised ≡ 0
+  demand-2-clear-at-load = clear-at-load bytes
+
+  pub demand-2-command-raises-none : (c : ℕ) → shown bytes (command c ∷ es) .raised ≡ shown bytes es .raised
+  demand-2-command-raises-none = command-raises-none bytes es
+
+  -- ---- "A commanded switch is on exactly when a sample has been accepted and no raised protection blocks it."
+
+  -- Switch 0, charge, is bit 0 of the fets field, and switch 1, discharge, bit 1.
+  pub demand-2-switch : (switch : ℕ) → switch < 2 → (hasBit (shown bytes es .fets) switch ≡ true) ↔ MayBeOn bytes es switch
+  demand-2-switch = on-exactly bytes es
+
+-- The lines of the replay under an accepted page: the header, and of each line what document 01 says of it behind the lines before it.
+pub demand-2-replay : (bytes log : List ℕ) → afterLoad bytes .verdict ≡ Accepted
+    → replayed bytes log ≡ headerText ++ story bytes [] (linesOf log)
+demand-2-replay = replay-says
+
+-- ==== DEMAND 3
+
+-- In every pack of n cells m samples suffice: after a load of any accepted page and any events since, a cell k that wants bleeding at m
+-- consecutive accepted samples, as document 01 says it, is bled in at least one of them: its bit, k - 1, stands in the balance shown at
+-- that sample. The m samples lie anywhere in the history, j samples before its latest, and of the other cells nothing is asked.
+abbrev pub Suffice : ℕ → ℕ → Type 0
+Suffice n m =
+    (bytes : List ℕ) → judged bytes ≡ Accepted → wordAt bytes 1 ≡ n → (es : List Event) (k : ℕ) → 1 ≤ k → k ≤ n → (j : ℕ)
+    → lastAll m (wantsCell k) (drop j (wanted bytes es)) ≡ true
+    → 0 < among m (λ w. inWord w k) (drop j (shownWords bytes es))
+
+-- ---- "From a fresh load, over any history, a cell that wants bleeding at n + 1 consecutive accepted samples, n being the number of
+-- cells, is bled in at least one of them, whatever the other cells do."
+
+-- One balance is shown for each accepted sample, and the wishes are one for each sample.
+pub demand-3-each : (bytes : List ℕ) (es : List Event)
+    → (length (shownWords bytes es) ≡ length (samples bytes es)) × (length (wanted bytes es) ≡ length (samples bytes es))
+demand-3-each bytes es = (shown-each bytes es, wishes-length (pageOf bytes) (samples bytes es))
+
+page-good : (bytes : List ℕ) → judged bytes ≡ Accepted → Good (pageOf bytes)
+page-good bytes taken = rw (page-accepted bytes taken) (accepted-good bytes taken)
+
+-- Any more than n samples suffice.
+more-than-n : (n m : ℕ) → n < m → Suffice n m
+more-than-n n m more bytes taken cells es k first last j wanting =
+    let same : pageOf bytes .rules .n ≡ n = word-1 bytes taken ∙ cells in
+    let few : suc (pageOf bytes .rules .n) ≤ m = omega arith in
+    let those = lastAll-le (suc (pageOf bytes .rules .n)) m (wantsCell k) (drop j (wanted bytes es)) few wanting in
+    let some = words-fair (pageOf bytes) (page-good bytes taken) k first (omega arith) j (samples bytes es) those in
+    let words = drop j (bledWords (pageOf bytes) (samples bytes es)) in
+    rw (shown-words bytes es) (lt-of-lt-of-le some (among-le (suc (pageOf bytes .rules .n)) m (λ w. inWord w k) words few))
+
+pub demand-3-wait : (n : ℕ) → Suffice n (n + 1)
+demand-3-wait n = more-than-n n (n + 1) (omega arith)
+
+-- ---- "No cell is bled at more than R accepted samples in a row, R being the page's run limit."
+
+-- No R + 1 balances shown one after the other have its bit. R is word 3 of the page.
+pub demand-3-run : (bytes : List ℕ) → judged bytes ≡ Accepted → (es : List Event) (k : ℕ) → 1 ≤ k → (j : ℕ)
+    → lastAll (suc (wordAt bytes 3)) (λ w. inWord w k) (drop j (shownWords bytes es)) ≡ false
+demand-3-run bytes taken es k first j =
+    rw (shown-words bytes es, ← word-3 bytes taken) (words-run (pageOf bytes) (page-good bytes taken) k first j (samples bytes es))
+
+-- ---- "Never are two neighbours bled at once,"
+
+-- Cells i + 1 and i + 2 have bits i and i + 1.
+pub demand-3-neighbours : (bytes : List ℕ) → judged bytes ≡ Accepted → (es : List Event) (i j : ℕ)
+    → hasBit (getD (shownWords bytes es) j 0) i ≡ true → hasBit (getD (shownWords bytes es) j 0) (suc i) ≡ true → ⊥
+demand-3-neighbours bytes taken es i j =
+    rw (shown-words bytes es) (words-apart (pageOf bytes) (page-good bytes taken) i j (samples bytes es))
+
+-- ---- "nor more than K cells."
+
+-- No balance shown has more than K bits set. K is word 2 of the page.
+pub demand-3-most : (bytes : List ℕ) → judged bytes ≡ Accepted → (es : List Event) (j : ℕ)
+    → ones (getD (shownWords bytes es) j 0) ≤ wordAt bytes 2
+demand-3-most bytes taken es j = rw (shown-words bytes es, ← word-2 bytes taken) (words-few (pageOf bytes) j (samples bytes es))
+
+-- ---- "Students always say n would do. It won't, and 01 shows why."
+
+-- Were it so, there would be no such wait as TooFew shows.
+pub demand-3-n-wont-do : (n : ℕ) → 3 ≤ n → n ≤ 10 → Suffice n n → ⊥
+demand-3-n-wont-do n least most enough =
+    let t = too-few n least most in
+    let some : 0 < among n (λ w. inWord w 1) (shownWords (pageFor n) (waiting n)) =
+    enough (pageFor n) (t .page) (t .cells) (waiting n) 1 (omega arith) (omega arith) 0 (t .wanting) in
+    let none = t .bled in
+    omega arith
+
+-- With two cells it does: only one of two can exceed the lowest.
+pub demand-3-two-cells : Suffice 2 2
+demand-3-two-cells bytes taken cells es k first last j wanting =
+    rw (shown-words bytes es) (two-suffice bytes taken (word-1 bytes taken ∙ cells) es k first last j wanting)

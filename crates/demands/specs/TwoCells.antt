@@ -4,14 +4,13 @@
 use mathlib.Core.Path.{_≡_, refl, sym, ap, _∙_, subst}
 use mathlib.Core.Bool.{Bool, true, false, not, _&&_}
 use mathlib.Core.List.{List, [], _∷_}
-use mathlib.Core.Logic.{_⊎_, ⊎-elim}
 use Prim.Native.Nat.{ℕ, zero, suc, _+_, _-_, _≤_, _<_}
 use native.Mathlib.Omega.{arith}
 use native.Mathlib.Nat.{zero-lt-suc, not-suc-le-zero, mod-lt}
 use lib.Dec.{leb, ltb, eqb}
 use lib.ListN.{length, getD, drop}
-use borrow.Author.Tests.{ltb-true, eqb-true, eqb-false, eq-eqb}
-use Rattle.laws.specs.Tests.{by-test, clash, and-left, and-right, or-left, or-right, or-cases}
+use borrow.Author.Tests.{ltb-true, eqb-true, eqb-false}
+use Rattle.laws.specs.Tests.{by-test, clash, and-left, and-right}
 use Rattle.laws.specs.Latest.{lastAll, among}
 use Rattle.units.specs.declared.MilliVolts.{MilliVolts}
 use Rattle.refusals.specs.declared.Verdict.{Verdict}
@@ -27,56 +26,14 @@ use Rattle.page_judge.specs.Page.{judged}
 use Rattle.bleed.specs.Walk.Demand.{bleds-drop}
 use Rattle.pack.specs.Kept.{pageOf, pastAfter}
 use Rattle.pack.specs.Calls.{page-accepted}
-use Rattle.bleed.specs.Walk.Walk.{has, neighbours, hasNeighbour, chosen}
-use Rattle.bleed.specs.Walk.WalkLaws.{only-wanting, only-cells, no-waste}
+use Rattle.bleed.specs.Walk.Walk.{has, chosen}
+use Rattle.bleed.specs.Walk.WalkLaws.{lone-bled}
 use Rattle.bleed.specs.Walk.History.{wantsCell, resting, startCell, bleds}
 use Rattle.bleed_wants.specs.Wants.{wants}
 use Rattle.bleed_wants.specs.Steps.{wishes, cellOf}
 use Rattle.bleed_wants.specs.Word.{inWord}
-use Rattle.pack_state.specs.State.{wishAt, wishesOf}
-use Rattle.demands.specs.BledWords.{bledWords, words-alike, alike-drop, alike-among}
-
--- ---- a cell that wants alone
-
--- A neighbour in a set is a cell of it.
-neighbour-in : (k : ℕ) (l : List ℕ) → hasNeighbour k l ≡ true → (d : ℕ) × (has d l ≡ true) × (neighbours k d ≡ true)
-neighbour-in k [] e = clash refl (sym e)
-neighbour-in k (d ∷ l) e =
-    ⊎-elim
-    (λ u. (d, or-left (eqb d d) (has d l) (eq-eqb d d refl), u))
-    (λ u. let q = neighbour-in k l u in (q .0, or-right (eqb (q .0) d) (has (q .0) l) (q .1), q .2))
-    (or-cases (neighbours k d) (hasNeighbour k l) e)
-
-not-own : (k : ℕ) → neighbours k k ≡ true → ⊥
-not-own k e =
-    ⊎-elim (λ u. let q = eqb-true (suc k) k u in omega arith) (λ u. let q = eqb-true (suc k) k u in omega arith)
-    (or-cases (eqb (suc k) k) (eqb (suc k) k) e)
-
-module _ (n K : ℕ) (w rests : ℕ → Bool) (start k : ℕ) (some : 0 < K) (begins : 1 ≤ start) (ends : start ≤ n) (first : 1 ≤ k) (last : k ≤ n)
-    (want : w k ≡ true) (awake : rests k ≡ false) (alone : (d : ℕ) → 1 ≤ d → d ≤ n → w d ≡ true → d ≡ k) where
-  abbrev taken : List ℕ
-  taken = chosen n K w rests start
-
-  -- Whoever is taken is k.
-  only-k : (d : ℕ) → has d taken ≡ true → d ≡ k
-  only-k d e =
-      let inside = only-cells n K w rests start d begins ends e in
-      alone d (inside .0) (inside .1) (and-left (w d) (not (rests d)) (only-wanting n K w rests start d e))
-
-  someone : (l : List ℕ) → K ≤ length l → ((d : ℕ) → has d l ≡ true → d ≡ k) → has k l ≡ true
-  someone [] h f = absurd (omega arith)
-  someone (d ∷ l) h f =
-      let mine : has d (d ∷ l) ≡ true = or-left (eqb d d) (has d l) (eq-eqb d d refl) in
-      or-left (eqb k d) (has k l) (eq-eqb k d (sym (f d mine)))
-
-  pub alone-bled : has k taken ≡ true
-  alone-bled =
-      ⊎-elim
-      (λ u. u)
-      (⊎-elim
-      (λ u. let q = neighbour-in k taken u in absurd (not-own k (rw (only-k (q .0) (q .1)) at (q .2))))
-      (λ u. someone taken u only-k))
-      (no-waste n K w rests start k begins first last (rw (want, awake)))
+use Rattle.pack_state.specs.State.{byPage, wishAt, wishesOf}
+use Rattle.demands.specs.BledWords.{bledWords, words-among}
 
 -- ---- two samples in a row
 
@@ -112,7 +69,7 @@ module _ (n K R k : ℕ) (some : 0 < K) (rests : 0 < R) (first : 1 ≤ k) (last 
       (λ u.
       let start = start-in n (suc (length ws)) (omega arith) in
       let is : has k now ≡ true =
-      alone-bled n K w (resting R (b ∷ bleds n K R ws)) (startCell n (suc (length ws))) k some (start .0) (start .1) first last want u (a .0 want) in
+      lone-bled n K w (resting R (b ∷ bleds n K R ws)) (startCell n (suc (length ws))) k some (start .0) (start .1) first last want (a .0 want) ∙ rw u in
       rw is (zero-lt-suc _))
 
 -- ---- two cells of a sample
@@ -135,8 +92,9 @@ one-wants page s h k d pair k1 k2 d1 d2 wk wd =
     let a : low < getD (s .cells) (k - 1) noVolts .0 = above-lowest _ _ _ _ low _ wk in
     let b : low < getD (s .cells) (d - 1) noVolts .0 = above-lowest _ _ _ _ low _ wd in
     let same : low ≡ getD (s .cells) (at .place) noVolts .0 = is ∙ ap (λ (v : MilliVolts). v .0) (at .is) in
-    let not-k : at .place ≡ k - 1 → ⊥ = λ e. let z : low ≡ getD (s .cells) (k - 1) noVolts .0 = same ∙ ap (λ (i : ℕ). getD (s .cells) i noVolts .0) e in omega arith in
-    let not-d : at .place ≡ d - 1 → ⊥ = λ e. let z : low ≡ getD (s .cells) (d - 1) noVolts .0 = same ∙ ap (λ (i : ℕ). getD (s .cells) i noVolts .0) e in omega arith in
+    let there : (i : ℕ) → at .place ≡ i → low ≡ getD (s .cells) i noVolts .0 = λ i e. same ∙ ap (λ (x : ℕ). getD (s .cells) x noVolts .0) e in
+    let not-k : at .place ≡ k - 1 → ⊥ = λ e. let z = there (k - 1) e in omega arith in
+    let not-d : at .place ≡ d - 1 → ⊥ = λ e. let z = there (d - 1) e in omega arith in
     let inside = at .within in
     by-test (eqb d k)
     (λ t. eqb-true d k t)
@@ -165,7 +123,7 @@ history-counts n (offer s ∷ es) =
     (λ t. rw t (sample-exact n s (accepts-is (sampleVerdict n s) t), history-counts n es))
     (λ t. rw t (history-counts n es))
 history-counts n (command c ∷ es) =
-    by-test (accepts (commandVerdict n c)) (λ t. rw t (history-counts n es)) (λ t. rw t (history-counts n es))
+    by-test (accepts (commandVerdict c)) (λ t. rw t (history-counts n es)) (λ t. rw t (history-counts n es))
 
 wishes-alone : (page : Settings) (k : ℕ) → 1 ≤ k → k ≤ 2 → (h : List Sample) → Counts 2 h → Alone 2 k (wishesOf page h)
 unfolding wishesOf
@@ -175,8 +133,8 @@ wishes-alone page k first last (s ∷ h) c =
 
 -- A pack of two cells, after any events: a cell that wants at two accepted samples in a row, j samples before the latest, is bled in at
 -- least one of them.
-pub two-suffice : (bytes : List ℕ) → judged bytes ≡ Accepted → pageOf bytes .rules .n ≡ 2 → (es : List Event) (k : ℕ) → 1 ≤ k → k ≤ 2 → (j : ℕ)
-    → lastAll 2 (wantsCell k) (drop j (wishesOf (pageOf bytes) (pastAfter bytes es .history))) ≡ true
+pub two-suffice : (bytes : List ℕ) → judged bytes ≡ Accepted → pageOf bytes .rules .n ≡ 2 → (es : List Event) (k : ℕ) → 1 ≤ k → k ≤ 2
+    → (j : ℕ) → lastAll 2 (wantsCell k) (drop j (wishesOf (pageOf bytes) (pastAfter bytes es .history))) ≡ true
     → 0 < among 2 (λ w. inWord w k) (drop j (bledWords (pageOf bytes) (pastAfter bytes es .history)))
 two-suffice bytes taken pair es k first last j wanting =
     let page = pageOf bytes in
@@ -184,8 +142,6 @@ two-suffice bytes taken pair es k first last j wanting =
     let h = pastAfter bytes es .history in
     let ws = wishesOf page h in
     let counts : Counts 2 h = subst (λ (n : ℕ). Counts n h) pair (history-counts (page .rules .n) es) in
-    rw (alike-among (λ w. inWord w k) (has k) 2 (drop j (bledWords page h)) (drop j (bleds (page .rules .n) (page .rules .k) (page .rules .r) ws))
-    (alike-drop (λ w. inWord w k) (has k) j (bledWords page h) (bleds (page .rules .n) (page .rules .k) (page .rules .r) ws) (words-alike page good k first h)))
-    (subst (λ (n : ℕ). 0 < among 2 (has k) (drop j (bleds n (page .rules .k) (page .rules .r) ws))) (sym pair)
-    (subst (λ (l : List (List ℕ)). 0 < among 2 (has k) l) (bleds-drop 2 (page .rules .k) (page .rules .r) j ws)
-    (two 2 (page .rules .k) (page .rules .r) k (good .k .0) (good .r .0) first last (drop j ws) (alone-drop 2 k j ws (wishes-alone page k first last h counts)) wanting)))
+    let alone : Alone (page .rules .n) k ws = subst (λ (n : ℕ). Alone n k ws) (sym pair) (wishes-alone page k first last h counts) in
+    rw (words-among page good k first 2 j h, ← byPage page bleds-drop j ws)
+    (byPage page two k (good .k .0) (good .r .0) first (omega arith) (drop j ws) (alone-drop (page .rules .n) k j ws alone) wanting)

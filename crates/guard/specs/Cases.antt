@@ -5,6 +5,7 @@ use mathlib.Core.Bool.{Bool, true, false}
 use mathlib.Core.List.{List, [], _∷_}
 use Prim.Native.Nat.{ℕ}
 use lib.IntN.{ℤ, pos}
+use Rattle.laws.specs.Latest.{nextRun}
 use Rattle.protections.specs.declared.Limits.{Limits}
 use Rattle.protections.specs.Table.{rowAt, table}
 use Rattle.sample.specs.declared.Sample.{Sample}
@@ -67,21 +68,21 @@ unfolding raised rowAt table measure extremesOf bestOf
 starred-history = refl
 
 pub starred-steps : bySteps 0 (loaded starred) starredSamples ≡ starredAnswer
-unfolding stepOne stepWith rowAt table extremesOf bestOf
+unfolding stepOne stepWith nextRun rowAt table extremesOf bestOf
 starred-steps = refl
 
 -- The runs themselves: two tripping samples, and none once another came.
 pub run-counts : alarmBySteps 0 (loaded starred) (high 4250 ∷ high 4250 ∷ []) ≡ Clear 2
-unfolding stepOne stepWith rowAt table extremesOf bestOf
+unfolding stepOne stepWith nextRun rowAt table extremesOf bestOf
 run-counts = refl
 
 pub run-ends : alarmBySteps 0 (loaded starred) (high 4250 ∷ high 4250 ∷ high 4249 ∷ []) ≡ Clear 0
-unfolding stepOne stepWith rowAt table extremesOf bestOf
+unfolding stepOne stepWith nextRun rowAt table extremesOf bestOf
 run-ends = refl
 
 -- A run of releasing samples does not go on over the release: the next run of tripping samples starts from none.
 pub run-after-release : alarmBySteps 0 (loaded starred) starredSamples ≡ Clear 0
-unfolding stepOne stepWith rowAt table extremesOf bestOf
+unfolding stepOne stepWith nextRun rowAt table extremesOf bestOf
 run-after-release = refl
 
 -- ---- currents are signed, to both ends of 16 bits

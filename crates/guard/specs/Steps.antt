@@ -5,14 +5,15 @@ use mathlib.Core.Bool.{Bool, true, false, not}
 use mathlib.Core.List.{List, [], _∷_}
 use Prim.Native.Nat.{ℕ, _+_, _≤_, _<_}
 use native.Mathlib.Omega.{arith}
-use lib.IntN.{ℤ, pos}
+use lib.IntN.{ℤ}
 use lib.ListN.{length, getD, set}
 use Rattle.laws.specs.Latest.{lastAll}
-use Rattle.laws.specs.Each.{eachTo, each-next, each-above, each-below}
+use Rattle.laws.specs.Each.{eachTo, each-next, each-below}
 use Rattle.protections.specs.declared.Direction.{Direction}
 use Rattle.protections.specs.declared.Limits.{Limits}
 use Rattle.protections.specs.declared.Row.{Row}
-use Rattle.protections.specs.Direction.{reaches, back, inOrder, never-both}
+use Rattle.protections.specs.Direction.{reaches, back, never-both}
+use Rattle.protections.specs.Limits.{noLimits, limitsAt, GoodLimits, AllGood}
 use Rattle.protections.specs.Table.{rowAt, protections}
 use Rattle.sample.specs.declared.Sample.{Sample}
 use Rattle.sample.specs.declared.Extremes.{Extremes}
@@ -25,15 +26,8 @@ use Rattle.laws.specs.Numbered.{listOf, listOf-length, listOf-at, each-listOf}
 use Rattle.guard.specs.Runs as runs
 use Rattle.guard.specs.Runs.{nextAlarm, RunWithin}
 
-abbrev pub noLimits : Limits
-noLimits = record { trip = pos 0; release = pos 0; n = 0; m = 0; mask = 0 }
-
 abbrev pub noProtection : Protection
 noProtection = record { limits = noLimits; alarm = Clear 0 }
-
--- What the page says of protection p.
-abbrev pub limitsAt : List Limits → ℕ → Limits
-limitsAt ls p = getD ls p noLimits
 
 -- ---- from the history
 
@@ -107,11 +101,6 @@ AllWithin ps = (p : ℕ) → p < protections → Within (getD ps p noProtection)
 
 -- ---- what the loop over the protections needs
 
--- The entry that is stepped next is as it was.
-pub within-next : (e : Extremes) (s : Sample) (ps out : List Protection) (i : ℕ) → out ≡ eachTo noProtection (stepWith e s) i ps
-    → AllWithin ps → i < protections → Within (getD out i noProtection)
-within-next e s ps out i q w h = rw (q, each-above noProtection (stepWith e s) i ps i (omega arith)) (w i h)
-
 -- One more protection at the load.
 pub clear-next : (ls : List Limits) (l out : List Protection) (i : ℕ) (r : Protection) → out ≡ eachTo noProtection (clearAt ls) i l
     → r ≡ clear (limitsAt ls i) → set out i r ≡ eachTo noProtection (clearAt ls) (i + 1) l
@@ -124,20 +113,6 @@ pub step-all-is : (e : Extremes) (s : Sample) (ps out : List Protection) (i : �
 unfolding stepAllWith
 step-all-is e s ps out i n q = rw (← n) q
 
--- ---- what an accepted page says of its limits
-
--- N and M are 1..240, the mask is 0..3, trip and release stand in the order of the direction.
-pub record GoodLimits (d : Direction) (l : Limits) : Type 0 where
-  pub n-least : 1 ≤ l .n
-  pub n-most : l .n ≤ 240
-  pub m-least : 1 ≤ l .m
-  pub m-most : l .m ≤ 240
-  pub mask-most : l .mask ≤ 3
-  pub ordered : inOrder d (l .trip) (l .release) ≡ true
-
-abbrev pub AllGood : List Limits → Type 0
-AllGood ls = (p : ℕ) → p < protections → GoodLimits (rowAt p .direction) (limitsAt ls p)
-
 -- ---- one protection of good limits
 
 module _ (row : Row) (l : Limits) (g : GoodLimits (row .direction) l) where
@@ -145,18 +120,24 @@ module _ (row : Row) (l : Limits) (g : GoodLimits (row .direction) l) where
   pub never-at-once : (s : Sample) → trips row l s ≡ true → qualifies row l s ≡ false
   never-at-once s = never-both (row .direction) (l .trip) (l .release) (measure (row .quantity) s) (g .ordered)
 
+  n-byte : l .n ≤ 255
+  n-byte = let h = g .n-most in omega arith
+
+  m-byte : l .m ≤ 255
+  m-byte = let h = g .m-most in omega arith
+
   -- One step on from what a history says is what the longer history says.
   pub protection-step : (s : Sample) (h : List Sample)
       → stepOne (row .direction) (measure (row .quantity) s) (protectionOf row l h) ≡ protectionOf row l (s ∷ h)
   unfolding stepOne protectionOf
   protection-step s h =
       ap (λ (a : Alarm). record { limits = l; alarm = a })
-      (runs.alarm-step (l .n) (l .m) (trips row l) (qualifies row l) (g .n-least) (g .m-least) never-at-once s h)
+      (runs.alarm-step (l .n) (l .m) (trips row l) (qualifies row l) (g .n-least) n-byte (g .m-least) m-byte never-at-once s h)
 
   -- Its run stays below N or M, however long the history is.
   pub protection-within : (h : List Sample) → Within (protectionOf row l h)
   unfolding protectionOf
-  protection-within h = runs.alarm-within (l .n) (l .m) (trips row l) (qualifies row l) (g .n-least) (g .m-least) never-at-once h
+  protection-within h = runs.alarm-within (l .n) (l .m) (trips row l) (qualifies row l) (g .n-least) n-byte (g .m-least) m-byte never-at-once h
 
   -- So it is below 240, and fits its byte.
   pub protection-run : (h : List Sample) → runs.runOf (protectionOf row l h .alarm) < 240
@@ -170,7 +151,7 @@ module _ (row : Row) (l : Limits) (g : GoodLimits (row .direction) l) where
   unfolding raised protectionOf
   between-ends s h b =
       let e = between-neither (row .direction) (l .trip) (l .release) (measure (row .quantity) s) b in
-      runs.neither-ends (l .n) (l .m) (trips row l) (qualifies row l) (g .n-least) (g .m-least) never-at-once s h (e .0) (e .1)
+      runs.neither-ends (l .n) (l .m) (trips row l) (qualifies row l) (g .n-least) n-byte (g .m-least) m-byte never-at-once s h (e .0) (e .1)
 
 pub protection-raised : (row : Row) (l : Limits) (h : List Sample) → runs.isRaised (protectionOf row l h .alarm) ≡ raised row l h
 unfolding protectionOf raised

@@ -8,6 +8,8 @@ use lib.IntN.{ℤ, pos}
 use Rattle.laws.specs.Bits.{hasBit, withBit, withBitIf}
 use Rattle.laws.specs.Each.{eachTo}
 use Rattle.laws.specs.Numbered.{listFrom, listOf}
+use Rattle.laws.specs.Words.{bitsOf, anyOf}
+use Rattle.laws.specs.Latest.{nextRun}
 use Rattle.protections.specs.declared.Limits.{Limits}
 use Rattle.protections.specs.Table.{rowAt, table}
 use Rattle.sample.specs.declared.Sample.{Sample}
@@ -17,7 +19,7 @@ use Rattle.sample.specs.Cases.{minus, sampled}
 use Rattle.guard.specs.declared.rule.Protection.{Protection}
 use Rattle.guard.specs.Cases.{limited}
 use Rattle.guard.specs.Steps.{raised, protectionOf, protectionsOf, protectionsAfter, stepOne, stepWith, stepAllWith}
-use Rattle.guard_raised.specs.Words.{bitsOf, anyOf, raisedBits, raisedWord, blocksOne, blocksAny, blocked}
+use Rattle.guard_raised.specs.Words.{raisedBits, raisedWord, blocksOne, blocksAny, blocked}
 
 -- Over voltage blocks charge after two samples, the second thermistor discharge after one, over charge current only reports.
 abbrev page : List Limits
@@ -60,6 +62,6 @@ abbrev fromArray : List Protection → Said
 fromArray ps = said (raisedBits ps) (blocksAny 0 ps) (blocksAny 1 ps)
 
 pub words-steps : fromArray (protectionsAfter page (seen 4260 (pos 900) 3330 ∷ seen 4250 (pos 0) 2980 ∷ [])) ≡ said 133 true true
-unfolding raisedBits blocksAny blocksOne bitsOf anyOf withBitIf withBit hasBit stepAllWith stepWith stepOne eachTo protectionsOf
+unfolding raisedBits blocksAny blocksOne bitsOf anyOf withBitIf withBit hasBit stepAllWith stepWith stepOne nextRun eachTo protectionsOf
     protectionOf listOf listFrom rowAt table extremesOf bestOf
 words-steps = refl

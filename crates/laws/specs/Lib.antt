@@ -4,3 +4,4 @@ pub mod Latest
 pub mod Numbered
 pub mod Tests
 pub mod Unique
+pub mod Words

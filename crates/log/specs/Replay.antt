@@ -2,192 +2,106 @@
 -- Assumes nothing.
 use Prim.Native.Nat.{ℕ, _+_, _-_, _≤_}
 use mathlib.Core.Path.{_≡_, refl, sym, ap, _∙_}
-use mathlib.Core.Bool.{Bool, true, cond}
-use mathlib.Core.List.{List, [], _∷_, _++_, append-nil}
-use native.Mathlib.Nat.{le-refl}
+use mathlib.Core.Bool.{Bool, true}
+use mathlib.Core.List.{List, [], _∷_, _++_}
 use native.Mathlib.Omega.{arith}
-use lib.Dec.{eqb}
-use lib.ListN.{length, take, drop, length-append, drop-of-length-le}
-use lib.Seq.{take-length}
-use borrow.Author.Tests.{le-ltb, eqb-true, eqb-false, ne-eqb}
-use Rattle.laws.specs.Tests.{by-test}
-use Rattle.text_fields.specs.Finding.{lacks}
+use lib.ListN.{length, take, drop}
+use borrow.Author.Tests.{ne-eqb}
 use Rattle.text_writing.specs.Placing.{Put}
-use Rattle.log_lines.specs.Lines.{plain, linesOf}
-use Rattle.log_lines.specs.Carrying.{carriedOf, movedDown, carried-few}
-use Rattle.log_lines.specs.Walking.{Ended, whole, whole-none, whole-line}
+use Rattle.log_lines.specs.Walking.{Ended}
+use Rattle.log_lines.specs.Folded.{behindLog}
 use Rattle.log_lines.specs.Output as any
 use Rattle.log_lines.specs.Chunk as cut
+use Rattle.log_lines.specs.Run as run
+use Rattle.log_lines.specs.Run.{closing}
 use Rattle.refusals.specs.declared.Verdict.{Verdict}
 use Rattle.refusals.specs.declared.Verdict.the-variants as verdict
 use Rattle.pack_state.specs.declared.Pack.{Pack}
 use Rattle.pack.specs.Kept.{afterLoad}
-use Rattle.log_answers.specs.Turns.{turnOf, turned, turn-overlong}
-use Rattle.log_texts.specs.Texts.{textOf, openingText, headerText}
+use Rattle.log_answers.specs.Tell.{tell, tell-overlong}
+use Rattle.log_texts.specs.Texts.{textOf, openingText}
 use Rattle.log_texts.specs.Room.{room, roomed, roomed-is, nothing-put}
-use Rattle.log_answers.specs.declared.Told.the-variants.{Refused}
-use Rattle.log_answers.specs.declared.Turned.{Turned}
+use Rattle.log_answers.specs.declared.Outcome.{Outcome}
 use Rattle.log.specs.declared.chunk.Fed.{Fed}
+use Rattle.log.specs.declared.pass.Gone.{Gone}
+use Rattle.log.specs.declared.pass.Rest.{Rest}
 
 -- The pack behind a line, and the text that the line is answered with.
-abbrev pub nextOf : Pack → List ℕ → Pack
-nextOf p line = turnOf p line .pack
+abbrev pub nextPack : Pack → List ℕ → Pack
+nextPack p line = tell p line .pack
 
-abbrev pub answerOf : Pack → List ℕ → List ℕ
-answerOf p line = textOf (turnOf p line .told)
+abbrev pub lineText : Pack → List ℕ → List ℕ
+lineText p line = textOf (tell p line .told)
 
 -- "One line per log line": what a log is answered with, from a pack on.
 abbrev pub output : Pack → List ℕ → List ℕ
-output = any.output nextOf answerOf
+output = any.output nextPack lineText
+
+-- The pack behind a log.
+abbrev pub packBehind : Pack → List ℕ → Pack
+packBehind = behindLog nextPack
 
 -- A refused page: its log is not looked at.
-abbrev pub linesAfter : Verdict → Pack → List ℕ → List ℕ
-linesAfter verdict.Accepted p log = output p log
-linesAfter (verdict.Refused number word) p log = []
+abbrev pub linesFor : Verdict → Pack → List ℕ → List ℕ
+linesFor verdict.Accepted p log = output p log
+linesFor (verdict.Refused number word) p log = []
 
 -- What the replay writes: the line of a refused page, or else the header, "then one line per log line".
 unfoldable pub replayed : List ℕ → List ℕ → List ℕ
 replayed page log =
-    openingText (afterLoad page .verdict) ++ linesAfter (afterLoad page .verdict) (afterLoad page .pack) log
+    openingText (afterLoad page .verdict) ++ linesFor (afterLoad page .verdict) (afterLoad page .pack) log
 
--- ---- a log that is cut anywhere
+-- ---- a log that is cut anywhere (crate log_lines, Chunk and Run)
 
--- What the chunk function answers (crate lines, Chunk).
-abbrev pub Chunked : List ℕ → List ℕ → Pack → Bool → ℕ → ℕ → Pack → List ℕ → Type 0
-Chunked = cut.Chunked nextOf answerOf room
+-- What the chunk function answers.
+abbrev pub AnswerChunk : List ℕ → List ℕ → Pack → Bool → ℕ → ℕ → Pack → List ℕ → Type 0
+AnswerChunk = cut.AnswerChunk nextPack lineText room
 
--- What was read so far, and whatever follows, is answered by what was written and the answer to what is held and follows (crate
--- lines, Output).
-abbrev pub Sofar : Pack → List ℕ → List ℕ → Pack → List ℕ → Type 0
-Sofar = any.Sofar nextOf answerOf
+-- What the feeding function answers for a buffer buf that is then buf′, and a buffer d for the answers that is then e.
+abbrev pub Feed : List ℕ → List ℕ → Pack → Fed → List ℕ → List ℕ → Type 0
+Feed buf d p r buf′ e = run.Feed nextPack lineText room buf d p (r .done) (r .used) (r .held) (r .written) (r .pack) buf′ e
 
--- What the feeding function answers for a buffer buf that is then buf′, and a buffer d for the answers that is then e: the chunk of its
--- bytes, how many of them wait, and that these were moved to the front.
-pub record Went (buf d : List ℕ) (p : Pack) (r : Fed) (buf′ e : List ℕ) : Type 0 where
-  pub chunked : Chunked buf d p (r .done) (r .used) (r .written) (r .pack) e
-  pub held : r .held ≡ carriedOf (r .done) (length buf - r .used)
-  pub moved : buf′ ≡ movedDown buf (r .used) (r .held)
-  pub few : r .held ≤ length buf
-  pub wrote : r .written ≤ length e
+-- A pass writes nothing: every line is answered with no text, into a buffer of no bytes, which is never full. So no newline is left behind it.
+abbrev pub noText : Pack → List ℕ → List ℕ
+noText p line = []
 
--- What the last line lacks, where held bytes are left at the end of the log: its newline. Nothing is no line.
-unfoldable pub closing : ℕ → List ℕ
-closing held = cond (eqb held 0) [] (10 ∷ [])
+abbrev pub PassChunk : List ℕ → Pack → Gone → Type 0
+PassChunk text p r = cut.AnswerChunk nextPack noText 0 text [] p true (r .used) 0 (r .pack) []
 
--- ---- the laws of the run
-
--- All lines over 128 bytes are answered alike.
-pub alike : any.Alike nextOf answerOf
-alike p l m h k =
-    let e : turnOf p l ≡ turnOf p m = turn-overlong p l h ∙ sym (turn-overlong p m k) in
-    (ap (λ (t : Turned). t .pack) e, ap (λ (t : Turned). textOf (t .told)) e)
-
--- At the start nothing was read.
-pub sofar-start : (p : Pack) → Sofar p [] [] p []
-sofar-start = any.sofar-start nextOf answerOf
-
--- A part was read behind what is held.
-pub sofar-read : (p₀ : Pack) (read o : List ℕ) (p : Pack) (held part : List ℕ)
-    → Sofar p₀ read o p held → Sofar p₀ (read ++ part) o p (held ++ part)
-sofar-read = any.sofar-read nextOf answerOf
-
--- The bytes that waited were fed, and what was written goes behind what was written before.
-pub sofar-fed : (p₀ : Pack) (read o : List ℕ) (p : Pack) (buf d : List ℕ) (r : Fed) (buf′ e : List ℕ)
-    → Sofar p₀ read o p buf → Went buf d p r buf′ e
-    → Sofar p₀ read (o ++ take (r .written) e) (r .pack) (take (r .held) buf′)
-sofar-fed p₀ read o p buf d r buf′ e s w =
-    any.sofar-then nextOf answerOf p₀ read o p buf (take (r .written) e) (r .pack) (take (r .held) buf′) s
-    (rw (w .moved, w .held) (rw (take-length buf) at (cut.sofar-fed nextOf answerOf room alike buf (length buf) d p (r .done) (r .used)
-    (r .written) (r .pack) e (omega arith) (rw (take-length buf) (w .chunked)))))
-
--- The end of the log: with its newline the last line is answered as it is without.
-pub output-closed : (p : Pack) (held : List ℕ) → plain held ≡ true → output p (held ++ closing (length held)) ≡ output p held
-unfolding closing any.output any.answers linesOf
-output-closed p held n =
-    by-test (eqb (length held) 0)
-    (λ t. rw t (ap (output p) (append-nil held)))
-    (λ t.
-    let k = eqb-false (length held) 0 t in
-    rw t
-    (any.output-line nextOf answerOf p held [] n ∙ append-nil (answerOf p held)
-    ∙ sym (any.output-last nextOf answerOf p held n ∙ any.last-answer nextOf answerOf p held (omega arith))))
-
-closed-used : (p : Pack) (held : List ℕ) (size : ℕ) → plain held ≡ true → room ≤ size
-    → cut.turns nextOf answerOf room size (cut.turned 0 [] p) (whole (held ++ closing (length held))) .used ≡ length (held ++ closing (length held))
-unfolding closing cut.turns lacks
-closed-used p held size n h =
-    by-test (eqb (length held) 0)
-    (λ t. let k = eqb-true (length held) 0 t in rw (t, append-nil held, whole-none held n, k))
-    (λ t. rw (t, whole-line held [] n, whole-none [] refl, le-ltb size (0 + room) h, length-append) (omega arith))
-
--- Once it is fed too, nothing is left to answer,
-pub closed-fed : (p : Pack) (held d : List ℕ) (r : Fed) (buf′ e : List ℕ) → plain held ≡ true → room ≤ length d
-    → Went (held ++ closing (length held)) d p r buf′ e → output p held ≡ take (r .written) e
-unfolding closing any.output any.answers linesOf
-closed-fed p held d r buf′ e n h w =
-    sym (output-closed p held n)
-    ∙ ap (output p) (sym (append-nil (held ++ closing (length held))))
-    ∙ w .chunked .keeps []
-    ∙ ap (λ (z : List ℕ). take (r .written) e ++ output (r .pack) (z ++ [])) none-left
-    ∙ append-nil (take (r .written) e)
-  where
-    used-all : r .used ≡ length (held ++ closing (length held))
-    used-all = ap (λ (x : cut.Turned Pack). x .used) (w .chunked .is) ∙ closed-used p held (length d) n h
-
-    none-left : drop (r .used) (held ++ closing (length held)) ≡ []
-    none-left = ap (λ (k : ℕ). drop k (held ++ closing (length held))) used-all ∙ drop-of-length-le (held ++ closing (length held)) (le-refl (length (held ++ closing (length held))))
-
--- and what was written along the way, followed by what the last line gave, is the answer to the whole log.
-pub sofar-last : (p₀ : Pack) (read o : List ℕ) (p : Pack) (held d : List ℕ) (r : Fed) (buf′ e : List ℕ) → plain held ≡ true → room ≤ length d
-    → Sofar p₀ read o p held → Went (held ++ closing (length held)) d p r buf′ e → output p₀ read ≡ o ++ take (r .written) e
-sofar-last p₀ read o p held d r buf′ e n h s w =
-    any.sofar-end nextOf answerOf p₀ read o p held n s
-    ∙ ap (λ (z : List ℕ). o ++ z) (sym (any.output-last nextOf answerOf p held n) ∙ closed-fed p held d r buf′ e n h w)
-
--- The whole: the header, what was written along the way and what the last line gave, wherever the log was cut.
-pub replayed-is : (page log o : List ℕ) (p : Pack) (held d : List ℕ) (r : Fed) (buf′ e : List ℕ) → afterLoad page .verdict ≡ verdict.Accepted
-    → plain held ≡ true → room ≤ length d → Sofar (afterLoad page .pack) log o p held → Went (held ++ closing (length held)) d p r buf′ e
-    → replayed page log ≡ headerText ++ (o ++ take (r .written) e)
-unfolding replayed
-replayed-is page log o p held d r buf′ e a n h s w =
-    rw a (ap (λ (z : List ℕ). headerText ++ z) (sofar-last (afterLoad page .pack) log o p held d r buf′ e n h s w))
-
--- A refused page gives its one line.
-pub replayed-refused : (page log : List ℕ) (number word : ℕ) → afterLoad page .verdict ≡ verdict.Refused number word
-    → replayed page log ≡ openingText (verdict.Refused number word) ++ []
-unfolding replayed
-replayed-refused page log number word a = rw a
+abbrev pub Pass : List ℕ → Pack → Rest → List ℕ → Type 0
+Pass buf p r buf′ = run.Feed nextPack noText 0 buf [] p true (r .used) (r .held) 0 (r .pack) buf′ []
 
 -- ---- what the code needs of them
 
+-- All lines over 128 bytes are answered alike.
+pub alike : any.Alike nextPack lineText
+alike p l m h k =
+    let e : tell p l ≡ tell p m = tell-overlong p l h ∙ sym (tell-overlong p m k) in
+    (ap (λ (t : Outcome). t .pack) e, ap (λ (t : Outcome). textOf (t .told)) e)
+
 -- The newline of the last line was put.
-pub closed-none : (buf : List ℕ) (held : ℕ) → held ≡ 0 → Put buf held (closing held) 0 buf
+pub closing-none : (buf : List ℕ) (held : ℕ) → held ≡ 0 → Put buf held (closing held) 0 buf
 unfolding closing
-closed-none buf held e = rw e (nothing-put buf 0)
+closing-none buf held e = rw e (nothing-put buf 0)
 
-pub closed-put : (buf : List ℕ) (held r : ℕ) (e : List ℕ) → (held ≡ 0 → ⊥) → Put buf held (10 ∷ []) r e → Put buf held (closing held) r e
+pub closing-put : (buf : List ℕ) (held r : ℕ) (e : List ℕ) → (held ≡ 0 → ⊥) → Put buf held (10 ∷ []) r e → Put buf held (closing held) r e
 unfolding closing
-closed-put buf held r e n p = rw (ne-eqb held 0 n) p
-
--- A buffer was fed.
-pub went : (buf d : List ℕ) (p : Pack) (r : Fed) (buf′ e : List ℕ)
-    → Chunked buf d p (r .done) (r .used) (r .written) (r .pack) e → r .held ≡ carriedOf (r .done) (length buf - r .used)
-    → buf′ ≡ movedDown buf (r .used) (r .held) → Went buf d p r buf′ e
-went buf d p r buf′ e c h m =
-    record {
-      chunked = c;
-      held = h;
-      moved = m;
-      few = let k = carried-few (r .done) (length buf - r .used) in omega arith;
-      wrote = c .fits;
-    }
+closing-put buf held r e n p = rw (ne-eqb held 0 n) p
 
 -- One answer more in a chunk.
-module _ (text d : List ℕ) (s : Pack) (at w : ℕ) (k : Pack) (o : List ℕ) (g : cut.Going nextOf answerOf room text d s at w k o) where
-  pub chunk-on : (end on : ℕ) → Ended text at end on → w + room ≤ length o → (t : Turned) → t ≡ turnOf k (take (end - at) (drop at text))
+module _ (text d : List ℕ) (s : Pack) (at w : ℕ) (k : Pack) (o : List ℕ) (g : cut.Going nextPack lineText room text d s at w k o) where
+  pub chunk-on : (end on : ℕ) → Ended text at end on → w + room ≤ length o → (t : Outcome) → t ≡ tell k (take (end - at) (drop at text))
       → (r : ℕ) (e : List ℕ) → length (roomed (length o) w (textOf (t .told))) ≤ room → Put o w (roomed (length o) w (textOf (t .told))) r e
-      → cut.Going nextOf answerOf room text d s on r (t .pack) e
+      → cut.Going nextPack lineText room text d s on r (t .pack) e
   chunk-on end on n h t et r e few p =
       let i = roomed-is (length o) w (textOf (t .told)) h in
-      cut.going-on nextOf answerOf room text d s at w k o g end on n h (textOf (t .told)) (t .pack) r e (rw i at few)
-      (ap (λ (q : Turned). textOf (q .told)) et) (ap (λ (q : Turned). q .pack) et) (rw i at p)
+      cut.going-on nextPack lineText room text d s at w k o g end on n h (textOf (t .told)) (t .pack) r e (rw i at few)
+      (ap (λ (q : Outcome). textOf (q .told)) et) (ap (λ (q : Outcome). q .pack) et) (rw i at p)
+
+-- One line more in a pass.
+module _ (text : List ℕ) (s : Pack) (at : ℕ) (k : Pack) (g : cut.Going nextPack noText 0 text [] s at 0 k []) where
+  pub pass-on : (end on : ℕ) → Ended text at end on → (t : Outcome) → t ≡ tell k (take (end - at) (drop at text))
+      → cut.Going nextPack noText 0 text [] s on 0 (t .pack) []
+  pass-on end on n t et =
+      cut.going-on nextPack noText 0 text [] s at 0 k [] g end on n (omega arith) [] (t .pack) 0 [] (omega arith) refl
+      (ap (λ (q : Outcome). q .pack) et) (nothing-put [] 0)

@@ -1,6 +1,6 @@
-// The log: a chunk of log answered line by line, and what has to wait for the next read.
+// A chunk of log answered line by line, and what has to wait for the next read.
 ghost use Rattle.pack.specs.Kept.{Kept};
-ghost use Rattle.log.specs.Replay.{Chunked, Went};
+ghost use Rattle.log.specs.Replay.{AnswerChunk, Feed};
 use log_lines::NextLine;
 use log_texts::ROOM;
 use pack_state::Pack;
@@ -25,7 +25,7 @@ pub struct Fed {
 // Answers the lines that end in `bytes`, one behind the other, as long as the longest answer has room.
 pub fn answer_chunk(p: Pack, bytes: &[u8], out: &mut [u8]) -> Chunk
     requires { ⌜ Kept p ⌝ }
-    ensures { λ r. ⌜ Chunked (now (bytes .entry)) (now (out .entry)) p (r .done) (r .used) (r .written) (r .pack) (now (out .exit)) ⌝ }
+    ensures { λ r. ⌜ AnswerChunk (now (bytes .entry)) (now (out .entry)) p (r .done) (r .used) (r .written) (r .pack) (now (out .exit)) ⌝ }
     ensures { λ r. ⌜ Kept (r .pack) ⌝ }
 {
     let mut k = p;
@@ -61,7 +61,7 @@ pub fn answer_chunk(p: Pack, bytes: &[u8], out: &mut [u8]) -> Chunk
 // Answers the bytes of a buffer as a chunk, and moves what has to wait for the next read to its front.
 pub fn feed(p: Pack, buf: &mut [u8], out: &mut [u8]) -> Fed
     requires { ⌜ Kept p ⌝ }
-    ensures { λ r. ⌜ Went (now (buf .entry)) (now (out .entry)) p r (now (buf .exit)) (now (out .exit)) ⌝ }
+    ensures { λ r. ⌜ Feed (now (buf .entry)) (now (out .entry)) p r (now (buf .exit)) (now (out .exit)) ⌝ }
     ensures { λ r. ⌜ Kept (r .pack) ⌝ }
 {
     let n = buf.len();
@@ -78,5 +78,3 @@ pub fn feed(p: Pack, buf: &mut [u8], out: &mut [u8]) -> Fed
         pack: k,
     }
 }
-
-// ---- the start

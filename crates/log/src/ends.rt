@@ -4,8 +4,8 @@ ghost use Prim.Native.Nat.{_≤_};
 ghost use lib.ListN.{length};
 ghost use Rattle.text_writing.specs.Placing.{Put};
 ghost use Rattle.pack.specs.Kept.{Kept, afterLoad};
+ghost use Rattle.log_lines.specs.Run.{closing};
 ghost use Rattle.log_texts.specs.Room.{Opened};
-ghost use Rattle.log.specs.Replay.{closing};
 use pack_state::Pack;
 use refusals::Verdict;
 
@@ -18,14 +18,14 @@ pub struct Begun {
 
 // The end of the log: the last line, where it does not end, gets its newline behind the `held` bytes that are left, so that it can be
 // answered like any other; where nothing is left there is no line. It answers how many bytes then wait.
-pub fn last(buf: &mut [u8], held: usize) -> usize
+pub fn put_closing(buf: &mut [u8], held: usize) -> usize
     ensures { λ r. ⌜ Put (now (buf .entry)) held (closing held) r (now (buf .exit)) ⌝ }
     ensures { λ r. ⌜ (held ≤ length (now (buf .entry)) → r ≤ length (now (buf .entry))) ⌝ }
 {
     if held == 0 {
         return 0;
     }
-    text_writing::put_byte(buf, held, 10)
+    text_writing::put_byte(buf, held, b'\n')
 }
 
 // Loads a page, and writes the header, or for a refused page its one line.

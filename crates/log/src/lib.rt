@@ -1,2 +1,3 @@
 pub mod chunk;
 pub mod ends;
+pub mod pass;

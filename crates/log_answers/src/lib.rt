@@ -1,7 +1,7 @@
-// Telling: what a line of the log does to a pack, as a value.
+// What a line of the log does to a pack, as a value: its answer, before it is text, and the pack behind it.
 ghost use mathlib.Core.Path.{_≡_};
 ghost use Rattle.pack.specs.Kept.{Kept};
-ghost use Rattle.log_answers.specs.Turns.{answeredAs, turnedBy, turnOf};
+ghost use Rattle.log_answers.specs.Tell.{answeredAs, outcomeOf, tell};
 use log_entries::Entry;
 use log_entries::Kind;
 use pack::Answered;
@@ -15,26 +15,29 @@ pub enum Told {
     Refused(u8),
 }
 
-// What a line is answered with, and the pack behind it.
-pub struct Turned {
+// What a line does: of which kind it is, what it is answered with, and the pack behind it.
+pub struct Outcome {
+    pub kind: Kind,
     pub told: Told,
     pub pack: Pack,
 }
 
-fn turned_by(a: Answered) -> Turned
-    ensures { λ r. ⌜ r ≡ turnedBy a ⌝ }
+fn outcome_of(kind: Kind, a: Answered) -> Outcome
+    ensures { λ r. ⌜ r ≡ outcomeOf kind a ⌝ }
 {
     let verdict = a.verdict;
     let p = a.pack;
     match verdict {
         Verdict::Accepted => {
             let d = pack_shown::decide(p);
-            Turned {
+            Outcome {
+                kind: kind,
                 told: Told::Decided(d),
                 pack: p,
             }
         }
-        Verdict::Refused { number, word: _ } => Turned {
+        Verdict::Refused { number, word: _ } => Outcome {
+            kind: kind,
             told: Told::Refused(number),
             pack: p,
         },
@@ -66,12 +69,13 @@ fn answered_by(p: Pack, e: Entry) -> Answered
 }
 
 // What a line does to a pack.
-pub fn tell(p: Pack, line: &[u8]) -> Turned
+pub fn tell(p: Pack, line: &[u8]) -> Outcome
     requires { ⌜ Kept p ⌝ }
-    ensures { λ r. ⌜ r ≡ turnOf p (now (line .entry)) ⌝ }
+    ensures { λ r. ⌜ r ≡ tell p (now (line .entry)) ⌝ }
     ensures { λ r. ⌜ Kept (r .pack) ⌝ }
 {
     let e = log_entries::read_entry(line);
     let a = answered_by(p, e);
-    turned_by(a)
+    let kind = e.kind;
+    outcome_of(kind, a)
 }

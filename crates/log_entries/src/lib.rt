@@ -137,14 +137,14 @@ pub fn read_entry(line: &[u8]) -> Entry
     if line.len() < 2 {
         return no_entry();
     }
-    if line[1] != 9 {
+    if line[1] != b'\t' {
         return no_entry();
     }
     let letter = line[0];
-    if letter == 83 {
+    if letter == b'S' {
         return read_sample(line, 2);
     }
-    if letter == 70 {
+    if letter == b'F' {
         return read_command(line, 2);
     }
     no_entry()

@@ -1,16 +1,18 @@
 -- Worked cases, computed: what a reader can check by eye.
 use Prim.Native.Nat.{ℕ, suc}
 use mathlib.Core.Path.{_≡_, refl}
-use mathlib.Core.Bool.{true, false}
+use mathlib.Core.Bool.{Bool, true, false}
 use mathlib.Core.List.{List, [], _∷_, _++_}
-use lib.ListN.{replicate}
+use lib.ListN.{length, replicate}
 use Rattle.text_fields.specs.Finding.{before}
 use Rattle.log_lines.specs.Lines.{linesOf, nextLine}
 use Rattle.log_lines.specs.Carrying.{carriedOf, movedDown}
 use Rattle.log_lines.specs.Walking.{whole}
+use Rattle.log_lines.specs.Folded.{behindLines, behindLog}
+use Rattle.log_lines.specs.Run.{closing, Round, readIn, writtenIn, stateBehind, heldBehind, doneBehind}
 use Rattle.log_lines.specs.Output.{output, answers}
-use Rattle.log_lines.specs.Chunk.{turns, turned}
-use Rattle.log_lines.specs.declared.NextLine.the-variants.{Ends, Unfinished, Overlong}
+use Rattle.log_lines.specs.Chunk.{answerLines, reached}
+use Rattle.log_lines.specs.declared.NextLine.the-variants.{Ends, Unfinished}
 
 -- an empty log has no line, one newline is one empty line
 pub few : (linesOf [] ≡ []) × (linesOf (10 ∷ []) ≡ [] ∷ [])
@@ -28,10 +30,10 @@ pub next : (nextLine (65 ∷ 10 ∷ 66 ∷ []) 0 ≡ Ends 1 2) × (nextLine (65 
 unfolding nextLine before
 next = (refl, refl, refl)
 
--- 128 bytes may still become a line, 129 may not
-pub long : (nextLine (replicate 128 65) 0 ≡ Unfinished) × (nextLine (replicate 129 65) 0 ≡ Overlong) × (nextLine (replicate 129 65 ++ (10 ∷ [])) 0 ≡ Ends 129 130)
+-- however long it is, a line ends at its newline
+pub long : (nextLine (replicate 129 65) 0 ≡ Unfinished) × (nextLine (replicate 129 65 ++ (10 ∷ [])) 0 ≡ Ends 129 130)
 unfolding nextLine before
-long = (refl, refl, refl)
+long = (refl, refl)
 
 -- 129 bytes are carried on of a line that did not end, and all where lines wait
 pub carries : (carriedOf true 128 ≡ 128) × (carriedOf true 129 ≡ 129) × (carriedOf true 500 ≡ 129) × (carriedOf false 500 ≡ 500)
@@ -54,8 +56,31 @@ pub told : output count tell 0 (65 ∷ 10 ∷ 10 ∷ 66 ∷ []) ≡ 0 ∷ 10 ∷
 unfolding output answers linesOf
 told = refl
 
+-- the state behind a log, and behind some lines
+pub counted : (behindLog count 0 (65 ∷ 10 ∷ 10 ∷ 66 ∷ []) ≡ 3) × (behindLog count 0 [] ≡ 0) × (behindLines count 4 ((65 ∷ []) ∷ []) ≡ 5)
+unfolding behindLog behindLines linesOf
+counted = (refl, refl, refl)
+
+-- the newline of a last line, where there is one
+pub closed : (closing 0 ≡ []) × (closing 1 ≡ 10 ∷ []) × (closing 129 ≡ 10 ∷ [])
+unfolding closing
+closed = (refl, refl, refl)
+
+-- two rounds: what was read and written, and what is left behind them
+abbrev round : List ℕ → Bool → List ℕ → Round ℕ
+round part done text =
+    record { part = part; out = []; done = done; used = 0; held = 1; written = 2; state = length part; rest = 66 ∷ 67 ∷ []; text = text }
+
+pub rounds : (readIn (round (65 ∷ []) true (1 ∷ 2 ∷ 3 ∷ []) ∷ round (68 ∷ 69 ∷ []) false (4 ∷ 5 ∷ 6 ∷ []) ∷ []) ≡ 65 ∷ 68 ∷ 69 ∷ [])
+    × (writtenIn (round (65 ∷ []) true (1 ∷ 2 ∷ 3 ∷ []) ∷ round (68 ∷ 69 ∷ []) false (4 ∷ 5 ∷ 6 ∷ []) ∷ []) ≡ 1 ∷ 2 ∷ 4 ∷ 5 ∷ [])
+    × (stateBehind 7 (round (65 ∷ []) true [] ∷ round (68 ∷ 69 ∷ []) false [] ∷ []) ≡ 2)
+    × (heldBehind (64 ∷ []) (round (65 ∷ []) true [] ∷ []) ≡ 66 ∷ [])
+    × (doneBehind true (round [] true [] ∷ round [] false [] ∷ []) ≡ false)
+    × (stateBehind {S = ℕ} 7 [] ≡ 7) × (heldBehind {S = ℕ} (64 ∷ []) [] ≡ 64 ∷ []) × (doneBehind {S = ℕ} true [] ≡ true)
+rounds = (refl, refl, refl, refl, refl, refl, refl, refl)
+
 -- with room for three bytes one of the two whole lines is answered
-pub chunk : (turns count tell 2 3 (turned 0 [] 0) (whole (65 ∷ 10 ∷ 10 ∷ 66 ∷ [])) ≡ turned 2 (0 ∷ 10 ∷ []) 1)
-    × (turns count tell 2 4 (turned 0 [] 0) (whole (65 ∷ 10 ∷ 10 ∷ 66 ∷ [])) ≡ turned 3 (0 ∷ 10 ∷ 1 ∷ 10 ∷ []) 2)
-unfolding turns whole
+pub chunk : (answerLines count tell 2 3 (reached 0 [] 0) (whole (65 ∷ 10 ∷ 10 ∷ 66 ∷ [])) ≡ reached 2 (0 ∷ 10 ∷ []) 1)
+    × (answerLines count tell 2 4 (reached 0 [] 0) (whole (65 ∷ 10 ∷ 10 ∷ 66 ∷ [])) ≡ reached 3 (0 ∷ 10 ∷ 1 ∷ 10 ∷ []) 2)
+unfolding answerLines whole
 chunk = (refl, refl)

@@ -7,7 +7,7 @@ use lib.ListN.{length, drop}
 use Rattle.text_fields.specs.Finding.{before, lacks}
 use Rattle.text_fields.specs.Fields.{longer}
 use Rattle.log_lines.specs.declared.NextLine.{NextLine}
-use Rattle.log_lines.specs.declared.NextLine.the-variants.{Ends, Unfinished, Overlong}
+use Rattle.log_lines.specs.declared.NextLine.the-variants.{Ends, Unfinished}
 
 -- "The last line need not end, and nothing after a final newline is a line": a newline is byte 10
 -- (longer: the first of the lines with one byte more in front; where there is none, that byte is one)
@@ -23,12 +23,8 @@ plain x = lacks 10 x
 abbrev pub endOf : List ℕ → ℕ
 endOf x = length (before 10 x)
 
--- what the bytes x, which start at from, say of the next line; "a line over 128 bytes (its newline not counted)" is overlong
-abbrev pub nextOf : ℕ → List ℕ → NextLine
-nextOf from x =
-    cond (ltb (endOf x) (length x)) (Ends (from + endOf x) (from + endOf x + 1))
-    (cond (ltb 128 (length x)) Overlong Unfinished)
-
--- the next line from from on
+-- The next line from a place on: where its newline stands, and where the line behind it starts.
 unfoldable pub nextLine : List ℕ → ℕ → NextLine
-nextLine text from = nextOf from (drop from text)
+nextLine text from =
+    let x : List ℕ = drop from text in
+    cond (ltb (endOf x) (length x)) (Ends (from + endOf x) (from + endOf x + 1)) Unfinished

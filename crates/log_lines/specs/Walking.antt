@@ -1,7 +1,7 @@
 -- The lines of a log, found one after the other.
 use Prim.Native.Nat.{ℕ, zero, suc, _+_, _-_, _<_, _≤_}
 use mathlib.Core.Path.{_≡_, refl, sym, ap, _∙_}
-use mathlib.Core.Bool.{Bool, true, false, cond}
+use mathlib.Core.Bool.{true, false, cond}
 use mathlib.Core.List.{List, [], _∷_, _++_, append-nil}
 use native.Mathlib.Omega.{arith}
 use lib.Dec.{eqb, ltb}
@@ -12,8 +12,7 @@ use Rattle.laws.specs.Tests.{by-test}
 use Rattle.text_fields.specs.Finding.{before, lacks, lacks-head, before-front, before-lacks, before-splits, before-all}
 use Rattle.text_fields.specs.Fields.{longer}
 use Rattle.log_lines.specs.Lines.{linesOf, plain, endOf, nextLine}
-use Rattle.log_lines.specs.declared.NextLine.{NextLine}
-use Rattle.log_lines.specs.declared.NextLine.the-variants.{Ends, Unfinished, Overlong}
+use Rattle.log_lines.specs.declared.NextLine.the-variants.{Ends, Unfinished}
 
 -- ---- bytes without a newline in front of the rest
 
@@ -97,6 +96,9 @@ pub record Ended (text : List ℕ) (from end next : ℕ) : Type 0 where
   pub start : from ≤ end
   pub inside : end < length text
 
+no-ends : (end next : ℕ) → Unfinished ≡ Ends end next → ⊥
+no-ends end next q = let z : _≡_ {A = ℕ} 0 1 = cc in omega arith
+
 module _ (text : List ℕ) (from : ℕ) where
   abbrev left : List ℕ
   left = drop from text
@@ -118,25 +120,15 @@ module _ (text : List ℕ) (from : ℕ) where
       let a : from + endOf left ≡ end = cc in
       let b : from + endOf left + 1 ≡ next = cc in
       record { is = sym a; after = omega arith; start = omega arith; inside = omega arith })
-      (λ t. absurd (no-ends (ltb 128 (length left)) (rw t at e)))
-    where
-      no-ends : (b : Bool) → cond b Overlong Unfinished ≡ Ends end next → ⊥
-      no-ends true q = let z : _≡_ {A = ℕ} 0 1 = cc in omega arith
-      no-ends false q = let z : _≡_ {A = ℕ} 0 1 = cc in omega arith
-
-  next-none : (r : NextLine) → nextLine text from ≡ r → ((end next : ℕ) → r ≡ Ends end next → ⊥) → plain left ≡ true
-  unfolding nextLine
-  next-none r e n =
-      by-test (ltb (endOf left) (length left))
-      (λ t. absurd (n (from + endOf left) (from + endOf left + 1) (sym (rw t at e))))
-      (λ t. no-newline (ltb-false (endOf left) (length left) t))
+      (λ t. absurd (no-ends end next (rw t at e)))
 
   -- no newline is left
   pub next-unfinished : nextLine text from ≡ Unfinished → plain left ≡ true
-  next-unfinished e = next-none Unfinished e (λ a b q. let z : _≡_ {A = ℕ} 0 1 = cc in omega arith)
-
-  pub next-overlong : nextLine text from ≡ Overlong → plain left ≡ true
-  next-overlong e = next-none Overlong e (λ a b q. let z : _≡_ {A = ℕ} 0 1 = cc in omega arith)
+  unfolding nextLine
+  next-unfinished e =
+      by-test (ltb (endOf left) (length left))
+      (λ t. absurd (no-ends (from + endOf left) (from + endOf left + 1) (sym (rw t at e))))
+      (λ t. no-newline (ltb-false (endOf left) (length left) t))
 
   -- the search for the newline came to e
   module _ (e : ℕ) (h : e ≡ from + endOf left) where
@@ -145,15 +137,9 @@ module _ (text : List ℕ) (from : ℕ) where
     next-found l =
         let k = left-length in rw (lt-ltb (endOf left) (length left) (omega arith), h)
 
-    pub next-short : length text ≤ e → length text - from ≤ 128 → Unfinished ≡ nextLine text from
+    pub next-not-found : length text ≤ e → Unfinished ≡ nextLine text from
     unfolding nextLine
-    next-short l m =
-        let k = left-length in rw (le-ltb (endOf left) (length left) (omega arith), le-ltb 128 (length left) (omega arith))
-
-    pub next-long : length text ≤ e → 128 < length text - from → Overlong ≡ nextLine text from
-    unfolding nextLine
-    next-long l m =
-        let k = left-length in rw (le-ltb (endOf left) (length left) (omega arith), lt-ltb 128 (length left) (omega arith))
+    next-not-found l = let k = left-length in rw (le-ltb (endOf left) (length left) (omega arith))
 
   -- the part up to end is the next line, and the lines behind it are those from next on
   module _ (end next : ℕ) (e : Ended text from end next) where

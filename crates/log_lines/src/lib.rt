@@ -8,10 +8,8 @@ ghost use Rattle.log_lines.specs.Carrying.{carriedOf, movedDown};
 pub enum NextLine {
     // Its newline stands at `end`, and the line behind it starts at `next`.
     Ends { end: usize, next: usize },
-    // No newline is left, and what is left may still become a line that can be read.
+    // No newline is left.
     Unfinished,
-    // No newline is left, and what is left is over 128 bytes already.
-    Overlong,
 }
 
 // The next line of the bytes from `from` on: the part up to `end`, without its newline.
@@ -19,20 +17,14 @@ pub fn next_line(bytes: &[u8], from: usize) -> NextLine
     ensures { λ r. ⌜ r ≡ nextLine (now (bytes .entry)) from ⌝ }
 {
     let n = bytes.len();
-    let e = text_fields::find(bytes, from, 10);
+    let e = text_fields::find(bytes, from, b'\n');
     if e < n {
         return NextLine::Ends {
             end: e,
             next: e + 1,
         };
     }
-    if n <= from {
-        return NextLine::Unfinished;
-    }
-    if n - from <= 128 {
-        return NextLine::Unfinished;
-    }
-    NextLine::Overlong
+    NextLine::Unfinished
 }
 
 // How many of the bytes that are left are carried on to the next read: all while lines wait in them; where no newline is left (`done`),

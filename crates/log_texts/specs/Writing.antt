@@ -5,12 +5,14 @@ use mathlib.Core.Path.{_≡_, refl}
 use mathlib.Core.List.{List, [], _∷_, _++_, append-assoc}
 use native.Mathlib.Omega.{arith}
 use lib.ListN.{length, length-append}
+use Rattle.text_fields.specs.Quoted.{quoted}
+use Rattle.text_fields.specs.Fields.{lineOf}
 use Rattle.text_fields.specs.Decimal.{decimal}
 use Rattle.text_fields.specs.Spelling.{decimal-length}
 use Rattle.text_writing.specs.Placing.{Put}
 use Rattle.text_writing.specs.Putting.{put-place, put-length, put-then}
 use Rattle.pack_shown.specs.declared.Decision.{Decision}
-use Rattle.log_texts.specs.Texts.{lineOf, fieldText, decisionText, refusedText, pageText}
+use Rattle.log_texts.specs.Texts.{fieldText, decisionText, refusedText, pageText}
 
 -- The first three fields of a decision, and the last two.
 unfoldable pub frontText : ℕ → ℕ → ℕ → List ℕ
@@ -25,10 +27,10 @@ decision-parts d = simp append-assoc
 
 -- `refused` and its tab, `page` and its tab.
 abbrev pub refusedWord : List ℕ
-refusedWord = 114 ∷ 101 ∷ 102 ∷ 117 ∷ 115 ∷ 101 ∷ 100 ∷ 9 ∷ []
+refusedWord = quoted "refused\t"
 
 abbrev pub pageWord : List ℕ
-pageWord = 112 ∷ 97 ∷ 103 ∷ 101 ∷ 9 ∷ []
+pageWord = quoted "page\t"
 
 pub refused-parts : (number : ℕ) → refusedText number ≡ refusedWord ++ fieldText number 10
 unfolding refusedText lineOf

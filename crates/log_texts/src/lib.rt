@@ -28,9 +28,9 @@ fn put_front(out: &mut [u8], at: usize, tick: u32, raised: u16, fets: u16) -> us
     ensures { λ r. ⌜ Put (now (out .entry)) at (frontText tick raised fets) r (now (out .exit)) ⌝ }
     ensures { λ _. ⌜ length (frontText tick raised fets) ≤ 23 ⌝ }
 {
-    let e = put_field(out, at, tick, 9);
-    let f = put_field(out, e, raised as u32, 9);
-    put_field(out, f, fets as u32, 9)
+    let e = put_field(out, at, tick, b'\t');
+    let f = put_field(out, e, raised as u32, b'\t');
+    put_field(out, f, fets as u32, b'\t')
 }
 
 fn put_back(out: &mut [u8], at: usize, balance: u16, mode: u16) -> usize
@@ -38,8 +38,8 @@ fn put_back(out: &mut [u8], at: usize, balance: u16, mode: u16) -> usize
     ensures { λ r. ⌜ Put (now (out .entry)) at (backText balance mode) r (now (out .exit)) ⌝ }
     ensures { λ _. ⌜ length (backText balance mode) ≤ 12 ⌝ }
 {
-    let e = put_field(out, at, balance as u32, 9);
-    put_field(out, e, mode as u32, 10)
+    let e = put_field(out, at, balance as u32, b'\t');
+    put_field(out, e, mode as u32, b'\n')
 }
 
 fn put_decision(out: &mut [u8], at: usize, d: Decision) -> usize
@@ -57,7 +57,7 @@ fn put_refused(out: &mut [u8], at: usize, number: u8) -> usize
     ensures { λ _. ⌜ length (refusedText number) ≤ 35 ⌝ }
 {
     let e = text_writing::put_bytes(out, at, b"refused\t");
-    put_field(out, e, number as u32, 10)
+    put_field(out, e, number as u32, b'\n')
 }
 
 // Puts the text of an answer at `at` and answers the place behind it; where the longest answer has no room nothing is written and the
@@ -85,8 +85,8 @@ fn put_page(out: &mut [u8], number: u8, word: u8) -> usize
     ensures { λ r. ⌜ Put (now (out .entry)) 0 (pageText number word) r (now (out .exit)) ⌝ }
 {
     let e = text_writing::put_bytes(out, 0, b"page\t");
-    let f = put_field(out, e, number as u32, 9);
-    put_field(out, f, word as u32, 10)
+    let f = put_field(out, e, number as u32, b'\t');
+    put_field(out, f, word as u32, b'\n')
 }
 
 // Writes the header, or for a refused page its one line; where the longest answer has no room nothing is written.

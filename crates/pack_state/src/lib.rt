@@ -1,8 +1,6 @@
 // The state of a pack: what it holds, and one accepted sample on.
 ghost use mathlib.Core.Path.{_≡_};
-ghost use Rattle.bleed.specs.Resting.Steps.{restingWord};
-ghost use Rattle.bleed.specs.Walk.Steps.{CellOf};
-ghost use Rattle.pack_state.specs.State.{nextTick, wantWith, nextBalance, Ready, acceptedPack};
+ghost use Rattle.pack_state.specs.State.{nextTick, wantWith, nextBalance, acceptedPack};
 use bleed::chooser::choose;
 use bleed::resting::next_runs;
 use bleed::resting::next_start;
@@ -30,7 +28,7 @@ pub struct Balance {
 }
 
 // The state of a pack: what the page says (its limits stand in the protections), and what was kept since. It does not grow with the
-// history. Without a page n is 0, and every sample and command is refused.
+// history. Without a page n is 0, and every sample is refused.
 pub struct Pack {
     pub rules: Rules,
     pub protections: [Protection; PROTECTIONS],
@@ -54,7 +52,7 @@ fn next_tick(t: u32) -> u32
 
 // The cells that want bleeding, by the protections after the sample.
 fn want_at(r: Rules, s: Sample, e: Extremes, ps: [Protection; PROTECTIONS]) -> u16
-    ensures { λ w. ⌜ w ≡ wantWith e r s ps ⌝ }
+    ensures { λ w. ⌜ w ≡ wantWith r s e ps ⌝ }
 {
     let charging = is_charging(r.detection, s.current);
     let raised = any_raised(ps);
@@ -70,26 +68,13 @@ fn want_at(r: Rules, s: Sample, e: Extremes, ps: [Protection; PROTECTIONS]) -> u
     )
 }
 
-// Who rests at a sample: nobody, if nobody was bled at the one before it.
-fn resting_now(r: Rules, bled: u16, runs: [u8; 10]) -> u16
-    requires { ⌜ (bled ≡ 0 → restingWord (r .n) (r .r) runs ≡ 0) ⌝ }
-    ensures { λ w. ⌜ w ≡ restingWord (r .n) (r .r) runs ⌝ }
-{
-    if bled == 0 {
-        return 0;
-    }
-    resting(r.n, r.r, runs)
-}
-
 // Bleeding at one sample.
 fn next_balance(r: Rules, want: u16, b: Balance) -> Balance
-    requires { ⌜ CellOf (r .n) (b .start .0) ⌝ }
-    requires { ⌜ (b .bled ≡ 0 → restingWord (r .n) (r .r) (b .runs) ≡ 0) ⌝ }
     ensures { λ q. ⌜ q ≡ nextBalance r want b ⌝ }
 {
     let runs = b.runs;
     let start = b.start;
-    let rested = resting_now(r, b.bled, runs);
+    let rested = resting(r.n, r.r, b.bled, runs);
     let bled = choose(r.n, r.k, want, rested, start);
     let next = next_runs(bled, runs);
     let after = next_start(r.n, start);
@@ -104,7 +89,6 @@ fn next_balance(r: Rules, want: u16, b: Balance) -> Balance
 
 // The pack after an accepted sample: protections first, then bleeding with the new protections.
 pub fn accept(p: Pack, s: Sample) -> Pack
-    requires { ⌜ Ready p ⌝ }
     ensures { λ r. ⌜ r ≡ acceptedPack p s ⌝ }
 {
     let cells = s.cells;

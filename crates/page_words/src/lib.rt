@@ -1,10 +1,10 @@
 // The words of the settings page one by one: reading them, the ranges that they have, the levels that they stand for.
 ghost use mathlib.Core.Path.{_≡_};
-ghost use Prim.Native.Nat.{_≤_};
 ghost use lib.ListN.{getD};
 ghost use Rattle.units.specs.Signed.{signedOf};
 ghost use Rattle.protections.specs.Direction.{inOrder};
 ghost use Rattle.page_words.specs.Ranges.{wordAt, within, degreesFit, levelFits, levelOf};
+use laws::wide;
 use protections::Direction;
 use protections::Quantity;
 use units::signed_of;
@@ -19,25 +19,18 @@ pub fn byte_at(page: &[u8], at: usize) -> u8
     0
 }
 
-// A byte as a wider number, of which it is still known that it is a byte.
-fn wide(b: u8) -> u16
-    ensures { λ r. ⌜ (r ≡ b) × (r ≤ 255) ⌝ }
-{
-    b as u16
-}
-
 // Word i of the page, low byte first; past the end of the page it reads as 0.
-pub fn word(page: &[u8], i: u8) -> u16
+pub fn word_at(page: &[u8], i: u16) -> u16
     ensures { λ r. ⌜ r ≡ wordAt (now (page .entry)) i ⌝ }
 {
     let at = 2 * (i as usize);
     let low = byte_at(page, at);
     let high = byte_at(page, at + 1);
-    wide(low) + 256 * wide(high)
+    (wide(low) + 256 * wide(high)) as u16
 }
 
 // Whether a value is one of low..high.
-pub fn inside(low: u16, high: u16, x: u16) -> bool
+pub fn within(low: u16, high: u16, x: u16) -> bool
     ensures { λ r. ⌜ r ≡ within low high x ⌝ }
 {
     if low <= x {
@@ -61,8 +54,8 @@ pub fn level_fits(quantity: Quantity, x: u16) -> bool
     ensures { λ r. ⌜ r ≡ levelFits quantity x ⌝ }
 {
     match quantity {
-        Quantity::HighestCell => inside(0, 6000, x),
-        Quantity::LowestCell => inside(0, 6000, x),
+        Quantity::HighestCell => within(0, 6000, x),
+        Quantity::LowestCell => within(0, 6000, x),
         Quantity::Current => true,
         Quantity::Temperature1 => degrees_fit(signed_of(x)),
         Quantity::Temperature2 => degrees_fit(signed_of(x)),
@@ -77,7 +70,7 @@ fn signed(x: u16) -> i32
 }
 
 // A trip or release word as the number that it stands for on the page: mV, mA or degrees.
-pub fn level(quantity: Quantity, x: u16) -> i32
+pub fn level_of(quantity: Quantity, x: u16) -> i32
     ensures { λ r. ⌜ r ≡ levelOf quantity x ⌝ }
 {
     match quantity {

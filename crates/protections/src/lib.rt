@@ -1,5 +1,6 @@
 // Document 01's table of the eight protections: what each looks at, which way it trips, its mode number.
 ghost use mathlib.Core.Path.{_≡_};
+ghost use Rattle.protections.specs.Direction.{back};
 ghost use Rattle.protections.specs.Table.{rowWith, rowAt};
 use units::ProtectionNo;
 
@@ -25,6 +26,16 @@ pub enum Direction {
 pub enum Mode {
     Silent,
     Number(u8),
+}
+
+// The direction in which a protection releases: the other one.
+pub fn back_of(d: Direction) -> Direction
+    ensures { λ r. ⌜ r ≡ back d ⌝ }
+{
+    match d {
+        Direction::Above => Direction::Below,
+        Direction::Below => Direction::Above,
+    }
 }
 
 // What a page says of one protection: levels in the sample's unit (mV, mA, tenths of a kelvin), the two run lengths, the switch mask.

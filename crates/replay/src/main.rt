@@ -1,113 +1,61 @@
 // replay PAGE LOG: writes what a settings page and a log give to standard output, the header and one line per log line, or the
 // one line of a refused page. What it cannot do it says on standard error; until a page and the first part of the log are read it
 // writes nothing else.
-ghost use Prim.Native.Nat.{_≤_, _<_};
+ghost use mathlib.Core.Path.{_≡_};
+ghost use mathlib.Core.Bool.{true};
+ghost use Prim.Native.Nat.{_≤_};
 ghost use lib.ListN.{length};
 ghost use Rattle.pack.specs.Kept.{Kept};
-use libc::STDERR_FILENO;
-use libc::STDOUT_FILENO;
 use pack_state::Pack;
 use refusals::Verdict;
 
-// How many bytes of a buffer were filled, and whether no read failed.
-struct Got {
-    ok: bool,
-    n: usize,
-}
-
-// One read behind the bytes that are held.
-fn read_on(fd: i32, buf: &mut [u8], held: usize) -> Got
-    requires { ⌜ held ≤ length (now buf) ⌝ }
-    ensures { λ r. ⌜ (held ≤ r .n) × (r .n ≤ length (now (buf .entry))) ⌝ }
-{
-    let part = &mut buf[held..];
-    let got = libc::read(fd, part);
-    let n = io::count(got, part);
-    Got {
-        ok: 0 <= got,
-        n: held + n,
-    }
-}
-
-// Reads until the file ends, a read fails or the buffer is full.
-fn read_all(fd: i32, buf: &mut [u8]) -> Got
-    ensures { λ r. ⌜ r .n ≤ length (now (buf .entry)) ⌝ }
-{
-    let mut held: usize = 0;
-    while held < buf.len() {
-        let got = read_on(fd, buf, held);
-        let n = got.n;
-        if n == held {
-            return got;
-        }
-        held = n;
-    }
-    Got { ok: true, n: held }
-}
-
-// What waits for an answer: more is read only where no line is left.
-fn read_more(done: bool, fd: i32, buf: &mut [u8], held: usize) -> Got
-    requires { ⌜ held ≤ length (now buf) ⌝ }
-    ensures { λ r. ⌜ (held ≤ r .n) × (r .n ≤ length (now (buf .entry))) ⌝ }
-{
-    if done {
-        return read_on(fd, buf, held);
-    }
-    Got { ok: true, n: held }
-}
-
-// Writes a text, and says so where that fails.
-fn write_text(text: &[u8]) -> bool {
-    if io::write_all(STDOUT_FILENO, text) {
-        return true;
-    }
-    os::fail(b"standard output");
-    false
-}
-
-// What a turn left: whether its text was written, whether no line is left, and the bytes that wait for the next one.
-struct Part {
+// What a round left: whether nothing failed, whether no line is left, whether the log has ended, and the bytes that wait for the next one.
+struct Round {
     ok: bool,
     done: bool,
+    ended: bool,
     held: usize,
     pack: Pack,
 }
 
 // Answers the first `have` bytes of the buffer, and writes the answers.
-fn answer_part(p: Pack, buf: &mut [u8], have: usize, out: &mut [u8]) -> Part
+fn answer_part(p: Pack, buf: &mut [u8], have: usize, out: &mut [u8]) -> Round
     requires { ⌜ Kept p × (have ≤ length (now buf)) ⌝ }
     ensures { λ r. ⌜ Kept (r .pack) × (r .held ≤ length (now (buf .entry))) ⌝ }
+    ensures { λ r. ⌜ (r .done ≡ true → r .held ≤ 129) ⌝ }
 {
     let waiting = &mut buf[..have];
     let r = log::chunk::feed(p, waiting, out);
     let n = r.written;
     let text = &out[..n];
-    let ok = write_text(text);
+    let ok = files::write_text(text);
     let k = r.pack;
-    Part {
+    Round {
         ok: ok,
         done: r.done,
+        ended: false,
         held: r.held,
         pack: k,
     }
 }
 
-// The log ends where no line was left and nothing more was read.
-fn has_ended(done: bool, held: usize, have: usize) -> bool {
-    if done {
-        return have == held;
-    }
-    false
-}
-
-// Answers the log, of which the first `first` bytes are read, up to its last line. What it could not do it has said, and it is not ok.
-fn answer_lines(name: &[u8], fd: i32, p: Pack, buf: &mut [u8], first: usize, out: &mut [u8]) -> Part
+// Answers the log, of which the first `first` bytes are read, up to its last line: where it is ok, the log has ended, no line is left, and
+// what waits has room for its newline. What it could not do it has said.
+fn answer_lines(
+    name: &[u8],
+    fd: i32,
+    p: Pack,
+    buf: &mut [u8],
+    first: usize,
+    out: &mut [u8],
+) -> Round
     requires { ⌜ Kept p × (first ≤ length (now buf)) ⌝ }
     ensures { λ r. ⌜ Kept (r .pack) × (r .held ≤ length (now (buf .entry))) ⌝ }
+    ensures { λ r. ⌜ (r .ok ≡ true → (r .ended ≡ true) × (r .done ≡ true) × (r .held ≤ 129)) ⌝ }
 {
     let mut k = p;
     let mut have = first;
-    let mut turns: u64 = 18446744073709551615;
+    let mut turns = files::TURNS;
     while 0 < turns {
         turns -= 1;
         let mut r = answer_part(k, buf, have, out);
@@ -115,23 +63,22 @@ fn answer_lines(name: &[u8], fd: i32, p: Pack, buf: &mut [u8], first: usize, out
             return r;
         }
         k = r.pack;
-        let held = r.held;
-        let got = read_more(r.done, fd, buf, held);
-        if !got.ok {
-            os::fail(name);
+        let more = files::read_more(name, fd, r.done, buf, r.held);
+        if !more.ok {
             r.ok = false;
             return r;
         }
-        have = got.n;
-        if has_ended(r.done, held, have) {
+        r.ended = more.ended;
+        if r.ended {
             return r;
         }
+        have = more.have;
     }
-    io::write_all(STDERR_FILENO, name);
-    io::write_all(STDERR_FILENO, b": too long\n");
-    Part {
+    files::say(name, b": too long\n");
+    Round {
         ok: false,
         done: true,
+        ended: false,
         held: 0,
         pack: k,
     }
@@ -143,7 +90,7 @@ fn answer(name: &[u8], fd: i32, p: Pack, buf: &mut [u8], first: usize, out: &mut
 {
     let r = answer_lines(name, fd, p, buf, first, out);
     if r.ok {
-        let n = log::ends::last(buf, r.held);
+        let n = log::ends::put_closing(buf, r.held);
         let k = r.pack;
         answer_part(k, buf, n, out);
     }
@@ -156,7 +103,7 @@ fn replay(page: &[u8], name: &[u8], fd: i32, buf: &mut [u8], first: usize, out: 
     let b = log::ends::begin(page, out);
     let n = b.written;
     let text = &out[..n];
-    if !write_text(text) {
+    if !files::write_text(text) {
         return;
     }
     let verdict = b.verdict;
@@ -166,48 +113,29 @@ fn replay(page: &[u8], name: &[u8], fd: i32, buf: &mut [u8], first: usize, out: 
     }
 }
 
-// Opens both files, and reads the page and the first part of the log.
 fn run(page_name: &[u8], log_name: &[u8]) {
-    let page_fd = os::open_read(page_name);
-    if page_fd < 0 {
-        os::fail(page_name);
-        return;
-    }
-    let log_fd = os::open_read(log_name);
-    if log_fd < 0 {
-        os::fail(log_name);
-        return;
-    }
     let mut page = io::buffer();
-    let got = read_all(page_fd, &mut page);
-    if !got.ok {
-        os::fail(page_name);
-        return;
-    }
     let mut buf = io::large_buffer();
-    let first = read_on(log_fd, &mut buf, 0);
-    if !first.ok {
-        os::fail(log_name);
-        return;
+    let r = files::open_both(page_name, log_name, &mut page, &mut buf);
+    if r.ok {
+        let mut out = io::large_buffer();
+        let n = r.page;
+        let bytes = &page[..n];
+        replay(bytes, log_name, r.log, &mut buf, r.first, &mut out);
     }
-    let mut out = io::large_buffer();
-    let n = got.n;
-    let bytes = &page[..n];
-    replay(bytes, log_name, log_fd, &mut buf, first.n, &mut out);
 }
 
 fn main() {
     let mut page_name = io::buffer();
-    let n = os::arg(1, &mut page_name);
-    if os::errno() != 0 {
-        io::write_all(STDERR_FILENO, b"usage: replay PAGE LOG\n");
+    let page = files::argument(1, b"usage: replay PAGE LOG\n", &mut page_name);
+    if !page.ok {
         return;
     }
     let mut log_name = io::buffer();
-    let m = os::arg(2, &mut log_name);
-    if os::errno() != 0 {
-        io::write_all(STDERR_FILENO, b"usage: replay PAGE LOG\n");
-        return;
+    let log = files::argument(2, b"usage: replay PAGE LOG\n", &mut log_name);
+    if log.ok {
+        let n = page.n;
+        let m = log.n;
+        run(&page_name[..n], &log_name[..m]);
     }
-    run(&page_name[..n], &log_name[..m]);
 }

@@ -1,16 +1,18 @@
 -- Samples written short, and computed cases that pin each quantity.
 -- Assumes nothing.
 use mathlib.Core.Path.{_≡_, refl}
-use mathlib.Core.List.{List, [], _∷_}
+use mathlib.Core.Bool.{true, false}
+use mathlib.Core.List.{List, [], _∷_, map}
 use Prim.Native.Nat.{ℕ, zero, suc}
 use lib.IntN.{ℤ, pos, negsuc}
 use Rattle.units.specs.declared.MilliVolts.{MilliVolts}
 use Rattle.laws.specs.Numbered.{listFrom, listOf}
 use Rattle.protections.specs.Table.{rowAt, table, protections}
+use Rattle.protections.specs.declared.Direction.the-variants.{Above, Below}
 use Rattle.sample.specs.declared.Sample.{Sample}
 use Rattle.sample.specs.declared.Extremes.{Extremes}
 use Rattle.sample.specs.Cells.{bestOf, extremesOf}
-use Rattle.sample.specs.Measure.{measure}
+use Rattle.sample.specs.Measure.{measure, between}
 
 -- ---- samples, written short
 
@@ -37,6 +39,14 @@ pub quantities
     ≡ (pos 4020 ∷ pos 3990 ∷ minus 7 ∷ minus 7 ∷ minus 7 ∷ pos 2981 ∷ pos 2981 ∷ pos 3002 ∷ [])
 unfolding listOf listFrom measure extremesOf bestOf rowAt table
 quantities = refl
+
+-- Between the two levels, neither of them included: trip 4250 and release 4150 upward, trip 2500 and release 2600 downward.
+pub between-levels
+    : (map (between Above (pos 4250) (pos 4150)) (pos 4150 ∷ pos 4151 ∷ pos 4249 ∷ pos 4250 ∷ [])
+    ∷ map (between Below (pos 2500) (pos 2600)) (pos 2500 ∷ pos 2501 ∷ pos 2599 ∷ pos 2600 ∷ [])
+    ∷ [])
+    ≡ ((false ∷ true ∷ true ∷ false ∷ []) ∷ (false ∷ true ∷ true ∷ false ∷ []) ∷ [])
+between-levels = refl
 
 -- A count over ten looks at ten entries; of no cell, both are 0.
 abbrev ten : List MilliVolts

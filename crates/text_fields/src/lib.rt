@@ -65,6 +65,6 @@ pub fn field(line: &[u8], from: usize) -> &[u8]
     if n < from {
         return &line[n..];
     }
-    let e = find(line, from, 9);
+    let e = find(line, from, b'\t');
     &line[from..e]
 }

@@ -4,6 +4,7 @@ ghost use Prim.Native.Nat.{_+_, _≤_};
 ghost use lib.ListN.{length};
 ghost use Rattle.text_numbers.specs.Numbers.{numberOf};
 ghost use Rattle.text_number_at.specs.NumberAt.{noDigit, orZero, fourAt, fourLeft, numberAt};
+use laws::wide;
 use text_fields::field;
 use text_numbers::Number;
 use text_numbers::read_number;
@@ -14,21 +15,14 @@ pub enum FieldNumber {
     Malformed,
 }
 
-// A byte as a wider number, of which it is still known that it is a byte.
-fn wide(b: u8) -> u32
-    ensures { λ r. ⌜ (r ≡ b) × (r ≤ 255) ⌝ }
-{
-    b as u32
-}
-
 // Whether a byte is no digit.
 fn no_digit(b: u8) -> bool
     ensures { λ r. ⌜ r ≡ noDigit b ⌝ }
 {
-    if b < 48 {
+    if b < b'0' {
         return true;
     }
-    57 < b
+    b'9' < b
 }
 
 // The number that the four bytes from `from` on spell, or 0 where they spell none: 53328 is 48 * 1111.
@@ -37,7 +31,7 @@ fn four(line: &[u8], from: usize) -> u16
     ensures { λ r. ⌜ r ≡ orZero (numberOf (fourAt (now (line .entry)) from)) ⌝ }
 {
     let a = line[from];
-    if a == 48 {
+    if a == b'0' {
         return 0;
     }
     if no_digit(a) {
@@ -71,7 +65,7 @@ fn four_left(line: &[u8], from: usize) -> bool
     if left < 5 {
         return left == 4;
     }
-    line[from + 4] == 9
+    line[from + 4] == b'\t'
 }
 
 // The field that starts at `from`, found and then read: any number at all.

@@ -30,9 +30,9 @@ abbrev pub numberOf : List ℕ → Number
 numberOf f = numberTo 65535 f
 
 -- minus v
-abbrev pub minus : ℕ → ℤ
-minus zero = pos zero
-minus (suc v) = negsuc v
+abbrev pub negative : ℕ → ℤ
+negative zero = pos zero
+negative (suc v) = negsuc v
 
 -- a number as it is
 abbrev pub aboveOf : Number → Signed
@@ -42,7 +42,7 @@ aboveOf Malformed = signed.Malformed
 -- a number behind a minus; there is no -0
 abbrev pub belowOf : Number → Signed
 belowOf (Value zero) = signed.Malformed
-belowOf (Value (suc v)) = signed.Value (negsuc v)
+belowOf (Value (suc v)) = signed.Value (negative (suc v))
 belowOf Malformed = signed.Malformed
 
 -- "The current is -32768..32767": a minus is byte 45

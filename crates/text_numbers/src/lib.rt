@@ -2,8 +2,9 @@
 ghost use mathlib.Core.Path.{_≡_};
 ghost use Prim.Native.Nat.{_-_, _≤_};
 ghost use lib.ListN.{length};
-ghost use Rattle.text_numbers.specs.Numbers.{digitsTo, numberTo, numberOf, minus};
+ghost use Rattle.text_numbers.specs.Numbers.{digitsTo, numberTo, numberOf, negative};
 ghost use Rattle.text_numbers.specs.Signs.{withSign, pastMinus};
+use laws::wide;
 
 // A field as a number.
 pub enum Number {
@@ -17,13 +18,6 @@ pub enum Signed {
     Malformed,
 }
 
-// A byte as a wider number, of which it is still known that it is a byte.
-fn wide(b: u8) -> u32
-    ensures { λ r. ⌜ (r ≡ b) × (r ≤ 255) ⌝ }
-{
-    b as u32
-}
-
 // The digits of a field as a number up to `most`; the test behind each digit keeps it from wrapping.
 fn digits(field: &[u8], most: u16) -> Number
     ensures { λ r. ⌜ r ≡ digitsTo most 0 (now (field .entry)) ⌝ }
@@ -32,13 +26,13 @@ fn digits(field: &[u8], most: u16) -> Number
     let mut i = 0;
     while i < field.len() {
         let b = field[i];
-        if b < 48 {
+        if b < b'0' {
             return Number::Malformed;
         }
-        if 57 < b {
+        if b'9' < b {
             return Number::Malformed;
         }
-        v = v * 10 + wide(b - 48);
+        v = v * 10 + wide(b - b'0');
         if (most as u32) < v {
             return Number::Malformed;
         }
@@ -57,7 +51,7 @@ fn number_to(field: &[u8], most: u16) -> Number
     if field.len() == 1 {
         return digits(field, most);
     }
-    if field[0] == 48 {
+    if field[0] == b'0' {
         return Number::Malformed;
     }
     digits(field, most)
@@ -73,7 +67,7 @@ pub fn read_number(field: &[u8]) -> Number
 // Minus `v`, for `v` from 1 to 32768: -32768 is made without ever being negated.
 fn negative(v: u16) -> i16
     requires { ⌜ (1 ≤ v) × (v ≤ 32768) ⌝ }
-    ensures { λ r. ⌜ r ≡ minus v ⌝ }
+    ensures { λ r. ⌜ r ≡ negative v ⌝ }
 {
     -1 - ((v - 1) as i16)
 }
@@ -103,7 +97,7 @@ pub fn past_minus(line: &[u8], from: usize) -> usize
     ensures { λ r. ⌜ (from ≤ r) × (r - from ≤ length (now (line .entry)) - from) ⌝ }
 {
     if from < line.len() {
-        if line[from] == 45 {
+        if line[from] == b'-' {
             return from + 1;
         }
     }

@@ -1,4 +1,8 @@
+-- A text put into a buffer: what a writer answers, and what it leaves of the buffer.
 pub mod Placing
-pub mod Putting
-pub mod Back
+-- Worked cases, computed.
 pub mod Cases
+-- Laws: texts put into a buffer, one behind the other.
+pub mod Putting
+-- Laws: reading what was written gives it back.
+pub mod Back

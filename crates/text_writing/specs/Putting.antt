@@ -11,7 +11,7 @@ use borrow.Author.Tests.{le-leb, lt-leb, leb-true, leb-false}
 use Rattle.laws.specs.Tests.{by-test}
 use Rattle.text_fields.specs.Decimal.{decimal}
 use Rattle.text_fields.specs.Spelling.{decimal-digit, decimal-tens, length-tens}
-use Rattle.text_writing.specs.Placing.{written, room, placed, behind, Put}
+use Rattle.text_writing.specs.Placing.{written, hasRoom, placed, placeBehind, Put}
 
 -- ---- a text that has room
 
@@ -50,7 +50,7 @@ module _ (d : List ℕ) (at : ℕ) (s : List ℕ) (h : at + length s ≤ length 
       ∙ rw (take-at p q (at + length s) front-length, e) (simp (append-assoc, length-append, add-assoc))
 
   pub put-yes : Put d at s (at + length s) (written d at s)
-  unfolding placed behind
+  unfolding placed placeBehind
   put-yes = record { place = rw (le-leb (at + length s) (length d) h); bytes = rw (le-leb (at + length s) (length d) h) }
 
 pub put-made : (d : List ℕ) (at : ℕ) (s e : List ℕ) → at + length s ≤ length d → e ≡ written d at s → Put d at s (at + length s) e
@@ -61,7 +61,7 @@ pub put-said : (d : List ℕ) (at : ℕ) (s e : List ℕ) (k : ℕ) → k ≡ le
 put-said d at s e k n h q = rw n (put-made d at s e (omega arith) q)
 
 pub put-no : (d : List ℕ) (at : ℕ) (s : List ℕ) → length d < at + length s → Put d at s at d
-unfolding placed behind
+unfolding placed placeBehind
 put-no d at s h = record { place = rw (lt-leb (at + length s) (length d) h); bytes = rw (lt-leb (at + length s) (length d) h) }
 
 -- ---- what a writer left, read off its contract
@@ -81,7 +81,7 @@ module _ {d : List ℕ} {at : ℕ} {s : List ℕ} {r : ℕ} {e : List ℕ} (p : 
 
   pub put-length : length e ≡ length d
   put-length =
-      by-test (room d at s)
+      by-test (hasRoom d at s)
       (λ t. let h = leb-true (at + length s) (length d) t in ap length (put-bytes h) ∙ written-length d at s h)
       (λ t. ap length (put-full-bytes (leb-false (at + length s) (length d) t)))
 

@@ -53,6 +53,9 @@ pub fn put_bytes(out: &mut [u8], at: usize, text: &[u8]) -> usize
     at
 }
 
+// The digit 0, b'0', as a wider number.
+const ZERO: u32 = 48;
+
 // How many digits `v` has.
 fn places(v: u32) -> usize
     ensures { λ r. ⌜ r ≡ length (decimal v) ⌝ }
@@ -75,11 +78,11 @@ fn put_digits(out: &mut [u8], at: usize, k: usize, v: u32)
     let mut i = at + k - 1;
     let mut rest = v;
     while 10 <= rest {
-        out[i] = (48 + rest % 10) as u8;
+        out[i] = (ZERO + rest % 10) as u8;
         rest /= 10;
         i -= 1;
     }
-    out[i] = (48 + rest) as u8;
+    out[i] = (ZERO + rest) as u8;
 }
 
 // Puts the decimal text of `v` at `at` and answers the place behind it; without room nothing is written and the answer is `at`.

@@ -1,199 +1,92 @@
-// words PAGE LOG: replays the log and then writes what the pack answers on the bus, one line for each command from 00 to ff: the reply's
+// words PAGE LOG: passes over the log and then writes what the pack answers on the bus, one line for each command from 00 to ff: the reply's
 // three bytes in hexadecimal, or `refused` and the number. A refused page gives its one line. What it cannot do it says on standard
-// error, and then it writes nothing else.
-ghost use Prim.Native.Nat.{_≤_, _<_};
+// error; until the log is read to its end it writes nothing else.
+ghost use mathlib.Core.Path.{_≡_};
+ghost use mathlib.Core.Bool.{true};
+ghost use Prim.Native.Nat.{_≤_};
 ghost use lib.ListN.{length};
 ghost use Rattle.pack.specs.Kept.{Kept};
-use bus::answer::Replied;
-use libc::STDERR_FILENO;
-use libc::STDOUT_FILENO;
 use pack_state::Pack;
 use refusals::Verdict;
 
-// How many bytes of a buffer were filled, and whether no read failed.
-struct Got {
+// What a round left: whether nothing failed, whether the log has ended, and the bytes that wait for the next one.
+struct Round {
     ok: bool,
-    n: usize,
-}
-
-// One read behind the bytes that are held.
-fn read_on(fd: i32, buf: &mut [u8], held: usize) -> Got
-    requires { ⌜ held ≤ length (now buf) ⌝ }
-    ensures { λ r. ⌜ (held ≤ r .n) × (r .n ≤ length (now (buf .entry))) ⌝ }
-{
-    let part = &mut buf[held..];
-    let got = libc::read(fd, part);
-    let n = io::count(got, part);
-    Got {
-        ok: 0 <= got,
-        n: held + n,
-    }
-}
-
-// Reads until the file ends, a read fails or the buffer is full.
-fn read_all(fd: i32, buf: &mut [u8]) -> Got
-    ensures { λ r. ⌜ r .n ≤ length (now (buf .entry)) ⌝ }
-{
-    let mut held: usize = 0;
-    while held < buf.len() {
-        let got = read_on(fd, buf, held);
-        let n = got.n;
-        if n == held {
-            return got;
-        }
-        held = n;
-    }
-    Got { ok: true, n: held }
-}
-
-// What waits for an answer: more is read only where no line is left.
-fn read_more(done: bool, fd: i32, buf: &mut [u8], held: usize) -> Got
-    requires { ⌜ held ≤ length (now buf) ⌝ }
-    ensures { λ r. ⌜ (held ≤ r .n) × (r .n ≤ length (now (buf .entry))) ⌝ }
-{
-    if done {
-        return read_on(fd, buf, held);
-    }
-    Got { ok: true, n: held }
-}
-
-// Writes a text, and says so where that fails.
-fn write_text(text: &[u8]) -> bool {
-    if io::write_all(STDOUT_FILENO, text) {
-        return true;
-    }
-    os::fail(b"standard output");
-    false
-}
-
-// What a turn left: whether no read failed, whether no line is left, and the bytes that wait for the next one.
-struct Part {
-    ok: bool,
-    done: bool,
+    ended: bool,
     held: usize,
     pack: Pack,
 }
 
-// Goes over the first `have` bytes of the buffer; the lines' texts are left in `out`, where nobody looks at them.
-fn pass_part(p: Pack, buf: &mut [u8], have: usize, out: &mut [u8]) -> Part
+// Passes over the first `have` bytes of the buffer: no line is left in what waits.
+fn pass_part(p: Pack, buf: &mut [u8], have: usize) -> Round
     requires { ⌜ Kept p × (have ≤ length (now buf)) ⌝ }
-    ensures { λ r. ⌜ Kept (r .pack) × (r .held ≤ length (now (buf .entry))) ⌝ }
+    ensures { λ r. ⌜ Kept (r .pack) × (r .held ≤ length (now (buf .entry))) × (r .held ≤ 129) ⌝ }
 {
     let waiting = &mut buf[..have];
-    let r = log::chunk::feed(p, waiting, out);
+    let r = log::pass::pass(p, waiting);
     let k = r.pack;
-    Part {
+    Round {
         ok: true,
-        done: r.done,
+        ended: false,
         held: r.held,
         pack: k,
     }
 }
 
-// The log ends where no line was left and nothing more was read.
-fn has_ended(done: bool, held: usize, have: usize) -> bool {
-    if done {
-        return have == held;
-    }
-    false
-}
-
-// Goes over the log, of which the first `first` bytes are read, up to its last line. A read that failed is said, and it is not ok.
-fn pass_lines(name: &[u8], fd: i32, p: Pack, buf: &mut [u8], first: usize, out: &mut [u8]) -> Part
+// Passes over the log, of which the first `first` bytes are read, up to its last line: where it is ok, the log has ended, and what waits has
+// room for its newline. What it could not do it has said.
+fn pass_lines(name: &[u8], fd: i32, p: Pack, buf: &mut [u8], first: usize) -> Round
     requires { ⌜ Kept p × (first ≤ length (now buf)) ⌝ }
-    ensures { λ r. ⌜ Kept (r .pack) × (r .held ≤ length (now (buf .entry))) ⌝ }
+    ensures { λ r. ⌜ Kept (r .pack) × (r .held ≤ length (now (buf .entry))) × (r .held ≤ 129) ⌝ }
+    ensures { λ r. ⌜ (r .ok ≡ true → r .ended ≡ true) ⌝ }
 {
     let mut k = p;
     let mut have = first;
-    let mut turns: u64 = 18446744073709551615;
+    let mut turns = files::TURNS;
     while 0 < turns {
         turns -= 1;
-        let mut r = pass_part(k, buf, have, out);
+        let mut r = pass_part(k, buf, have);
         k = r.pack;
-        let held = r.held;
-        let got = read_more(r.done, fd, buf, held);
-        if !got.ok {
-            os::fail(name);
+        let more = files::read_more(name, fd, true, buf, r.held);
+        if !more.ok {
             r.ok = false;
             return r;
         }
-        have = got.n;
-        if has_ended(r.done, held, have) {
+        r.ended = more.ended;
+        if r.ended {
             return r;
         }
+        have = more.have;
     }
-    io::write_all(STDERR_FILENO, name);
-    io::write_all(STDERR_FILENO, b": too long\n");
-    Part {
+    files::say(name, b": too long\n");
+    Round {
         ok: false,
-        done: true,
+        ended: false,
         held: 0,
         pack: k,
     }
 }
 
-// The pack after the last line, where one is left that does not end.
-fn after_last(p: Pack, held: &[u8]) -> Pack
-    requires { ⌜ Kept p ⌝ }
-    ensures { λ r. ⌜ Kept r ⌝ }
-{
-    if held.len() == 0 {
-        return p;
-    }
-    let t = log_answers::tell(p, held);
-    let k = t.pack;
-    k
-}
-
-fn put_refused(number: u8) {
-    io::write_all(STDOUT_FILENO, b"refused\t");
-    io::print_decimal(STDOUT_FILENO, number as u64);
-}
-
-fn put_bytes(three: [u8; 3]) {
-    io::print_hex(STDOUT_FILENO, three[0] as u64, 2);
-    io::print_hex(STDOUT_FILENO, three[1] as u64, 2);
-    io::print_hex(STDOUT_FILENO, three[2] as u64, 2);
-}
-
-// One command's line. It is good if its last byte was written.
-fn write_word(p: Pack, command: u8) -> bool
+// Writes the 256 lines at once.
+fn write_words(p: Pack, out: &mut [u8])
     requires { ⌜ Kept p ⌝ }
 {
-    io::print_hex(STDOUT_FILENO, command as u64, 2);
-    io::write_all(STDOUT_FILENO, b"\t");
-    let mut three = [0u8; 3];
-    let answer = bus::reply::reply(p, command, &mut three);
-    match answer {
-        Replied::Sent => put_bytes(three),
-        Replied::Refused { number } => put_refused(number),
-    }
-    io::write_all(STDOUT_FILENO, b"\n")
+    let n = bus_lines::put_words(p, out);
+    let text = &out[..n];
+    files::write_text(text);
 }
 
-fn write_words(p: Pack)
-    requires { ⌜ Kept p ⌝ }
-{
-    let mut c: u16 = 0;
-    while c < 256 {
-        if !write_word(p, (c % 256) as u8) {
-            os::fail(b"standard output");
-            return;
-        }
-        c += 1;
-    }
-}
-
+// Passes over the whole log, of which the first `first` bytes are read, and writes what the pack then answers.
 fn answer(name: &[u8], fd: i32, p: Pack, buf: &mut [u8], first: usize, out: &mut [u8])
     requires { ⌜ Kept p × (first ≤ length (now buf)) ⌝ }
 {
-    let r = pass_lines(name, fd, p, buf, first, out);
+    let r = pass_lines(name, fd, p, buf, first);
     if r.ok {
-        let held = r.held;
-        let rest = &buf[..held];
+        let n = log::ends::put_closing(buf, r.held);
         let k = r.pack;
-        let last = after_last(k, rest);
-        write_words(last);
+        let last = pass_part(k, buf, n);
+        let q = last.pack;
+        write_words(q, out);
     }
 }
 
@@ -211,53 +104,34 @@ fn words(page: &[u8], name: &[u8], fd: i32, buf: &mut [u8], first: usize, out: &
         Verdict::Refused { .. } => {
             let n = b.written;
             let text = &out[..n];
-            write_text(text);
+            files::write_text(text);
         }
     }
 }
 
-// Opens both files, and reads the page and the first part of the log.
 fn run(page_name: &[u8], log_name: &[u8]) {
-    let page_fd = os::open_read(page_name);
-    if page_fd < 0 {
-        os::fail(page_name);
-        return;
-    }
-    let log_fd = os::open_read(log_name);
-    if log_fd < 0 {
-        os::fail(log_name);
-        return;
-    }
     let mut page = io::buffer();
-    let got = read_all(page_fd, &mut page);
-    if !got.ok {
-        os::fail(page_name);
-        return;
-    }
     let mut buf = io::large_buffer();
-    let first = read_on(log_fd, &mut buf, 0);
-    if !first.ok {
-        os::fail(log_name);
-        return;
+    let r = files::open_both(page_name, log_name, &mut page, &mut buf);
+    if r.ok {
+        let mut out = io::large_buffer();
+        let n = r.page;
+        let bytes = &page[..n];
+        words(bytes, log_name, r.log, &mut buf, r.first, &mut out);
     }
-    let mut out = io::large_buffer();
-    let n = got.n;
-    let bytes = &page[..n];
-    words(bytes, log_name, log_fd, &mut buf, first.n, &mut out);
 }
 
 fn main() {
     let mut page_name = io::buffer();
-    let n = os::arg(1, &mut page_name);
-    if os::errno() != 0 {
-        io::write_all(STDERR_FILENO, b"usage: words PAGE LOG\n");
+    let page = files::argument(1, b"usage: words PAGE LOG\n", &mut page_name);
+    if !page.ok {
         return;
     }
     let mut log_name = io::buffer();
-    let m = os::arg(2, &mut log_name);
-    if os::errno() != 0 {
-        io::write_all(STDERR_FILENO, b"usage: words PAGE LOG\n");
-        return;
+    let log = files::argument(2, b"usage: words PAGE LOG\n", &mut log_name);
+    if log.ok {
+        let n = page.n;
+        let m = log.n;
+        run(&page_name[..n], &log_name[..m]);
     }
-    run(&page_name[..n], &log_name[..m]);
 }

@@ -4,9 +4,12 @@
 use Prim.Native.Nat.{ℕ}
 use mathlib.Core.Path.{_≡_, refl}
 use mathlib.Core.List.{List, [], _∷_}
+use Rattle.text_fields.specs.Quoted.{quoted}
 use Rattle.log.specs.Replay.{replayed}
 use Rattle.laws.specs.Bits as laws-bits
 use Rattle.laws.specs.Each as laws-each
+use Rattle.laws.specs.Latest as laws-latest
+use Rattle.laws.specs.Words as laws-words
 use Rattle.units.specs.Signed as units-signed
 use Rattle.protections.specs.Table as protections-table
 use Rattle.crc.specs.CheckByte as crc-checkbyte
@@ -17,6 +20,8 @@ use Rattle.text_numbers.specs.Numbers as numbers-numbers
 use Rattle.log_lines.specs.Lines as lines-lines
 use Rattle.log_lines.specs.Output as lines-output
 use Rattle.page_words.specs.Ranges as ranges-ranges
+use Rattle.page_faults.specs.Kinds as faults-kinds
+use Rattle.page_faults.specs.Met as faults-met
 use Rattle.page_judge.specs.Page as page-page
 use Rattle.page_settings.specs.Settings as settings-settings
 use Rattle.sample.specs.Cells as quantities-cells
@@ -35,7 +40,7 @@ use Rattle.pack_shown.specs.Shown as shown-shown
 use Rattle.pack.specs.Answers as pack-answers
 use Rattle.pack_state.specs.State as state-state
 use Rattle.log_entries.specs.Entry as entries-entry
-use Rattle.log_answers.specs.Turns as telling-turns
+use Rattle.log_answers.specs.Tell as log-answers-tell
 use Rattle.log_texts.specs.Texts as answers-texts
 use Rattle.log.specs.Replay as log-replay
 
@@ -45,35 +50,36 @@ page = 164 ∷ 23 ∷ 2 ∷ 0 ∷ 1 ∷ 0 ∷ 4 ∷ 0 ∷ 60 ∷ 15 ∷ 10 ∷ 0
 
 -- `F 3`, and four `S` lines
 abbrev pub log : List ℕ
-log = 70 ∷ 9 ∷ 51 ∷ 10 ∷ 83 ∷ 9 ∷ 53 ∷ 48 ∷ 48 ∷ 9 ∷ 50 ∷ 57 ∷ 56 ∷ 48 ∷ 9 ∷ 50 ∷ 57 ∷ 56 ∷ 48 ∷ 9 ∷ 52 ∷ 48 ∷ 48 ∷ 48 ∷ 9 ∷ 52 ∷ 48 ∷ 50 ∷ 48 ∷ 10 ∷ 83 ∷ 9 ∷ 53 ∷ 48 ∷ 48 ∷ 9 ∷ 50 ∷ 57 ∷ 56 ∷ 48 ∷ 9 ∷ 50 ∷ 57 ∷ 56 ∷ 48 ∷ 9 ∷ 52 ∷ 50 ∷ 54 ∷ 48 ∷ 9 ∷ 52 ∷ 49 ∷ 48 ∷ 48 ∷ 10 ∷ 83 ∷ 9 ∷ 53 ∷ 48 ∷ 48 ∷ 9 ∷ 50 ∷ 57 ∷ 56 ∷ 48 ∷ 9 ∷ 50 ∷ 57 ∷ 56 ∷ 48 ∷ 9 ∷ 52 ∷ 50 ∷ 54 ∷ 48 ∷ 9 ∷ 52 ∷ 49 ∷ 48 ∷ 48 ∷ 10 ∷ 83 ∷ 9 ∷ 53 ∷ 48 ∷ 48 ∷ 9 ∷ 50 ∷ 57 ∷ 56 ∷ 48 ∷ 9 ∷ 50 ∷ 57 ∷ 56 ∷ 48 ∷ 9 ∷ 52 ∷ 49 ∷ 48 ∷ 48 ∷ 10 ∷ []
+log = quoted "F\t3\nS\t500\t2980\t2980\t4000\t4020\nS\t500\t2980\t2980\t4260\t4100\nS\t500\t2980\t2980\t4260\t4100\nS\t500\t2980\t2980\t4100\n"
 
 -- the header, four decisions, and `refused 9`
 abbrev pub written : List ℕ
-written = 116 ∷ 105 ∷ 99 ∷ 107 ∷ 9 ∷ 114 ∷ 97 ∷ 105 ∷ 115 ∷ 101 ∷ 100 ∷ 9 ∷ 102 ∷ 101 ∷ 116 ∷ 115 ∷ 9 ∷ 98 ∷ 97 ∷ 108 ∷ 97 ∷ 110 ∷ 99 ∷ 101 ∷ 9 ∷ 109 ∷ 111 ∷ 100 ∷ 101 ∷ 10 ∷ 48 ∷ 9 ∷ 48 ∷ 9 ∷ 48 ∷ 9 ∷ 48 ∷ 9 ∷ 48 ∷ 10 ∷ 49 ∷ 9 ∷ 48 ∷ 9 ∷ 51 ∷ 9 ∷ 50 ∷ 9 ∷ 51 ∷ 10 ∷ 50 ∷ 9 ∷ 48 ∷ 9 ∷ 51 ∷ 9 ∷ 49 ∷ 9 ∷ 51 ∷ 10 ∷ 51 ∷ 9 ∷ 49 ∷ 9 ∷ 50 ∷ 9 ∷ 48 ∷ 9 ∷ 50 ∷ 49 ∷ 10 ∷ 114 ∷ 101 ∷ 102 ∷ 117 ∷ 115 ∷ 101 ∷ 100 ∷ 9 ∷ 57 ∷ 10 ∷ []
+written = quoted "tick\traised\tfets\tbalance\tmode\n0\t0\t0\t0\t0\n1\t0\t3\t2\t3\n2\t0\t3\t1\t3\n3\t1\t2\t0\t21\nrefused\t9\n"
 
 -- `page 1 0` for a page of no bytes, whatever the log is
 abbrev pub pageLine : List ℕ
-pageLine = 112 ∷ 97 ∷ 103 ∷ 101 ∷ 9 ∷ 49 ∷ 9 ∷ 48 ∷ 10 ∷ []
+pageLine = quoted "page\t1\t0\n"
 
 pub example : replayed page log ∷ replayed [] log ∷ [] ≡ written ∷ pageLine ∷ []
 unfolding laws-bits.hasBit laws-bits.withBitIf laws-each.eachTo units-signed.signedOf protections-table.rowAt crc-checkbyte.timesX
     crc-checkbyte.timesXs crc-checkbyte.withByte crc-checkbyte.remainder crc-checkbyte.checkByte text-decimal.decimal text-fields.fieldsOf
     text-finding.lacks numbers-numbers.digitsTo numbers-numbers.numberTo numbers-numbers.signedOf lines-lines.linesOf lines-output.answers
     lines-output.output ranges-ranges.wordAt ranges-ranges.within ranges-ranges.degreesFit ranges-ranges.levelFits ranges-ranges.levelOf
-    page-page.refusals page-page.judged settings-settings.inDegrees settings-settings.sampleLevel settings-settings.limitsAt
+    faults-kinds.kindOf faults-met.levelMet faults-met.orderMet faults-met.onRow faults-met.kindMeets faults-met.meets
+    page-page.refusals page-page.judged settings-settings.inDegrees settings-settings.sampleLevel settings-settings.limitsFrom
     settings-settings.limitsOf settings-settings.rulesOf settings-settings.settingsOf settings-settings.noSettings
     settings-settings.loadedOf quantities-cells.bestOf quantities-cells.widen quantities-cells.extremesOf laws-numbered.listFrom
     laws-numbered.listOf guard-steps.raised guard-steps.protectionOf guard-steps.protectionsOf guard-steps.stepOne guard-steps.stepWith
-    guard-steps.stepAllWith guard-steps.clear guard-steps.clearAt raised-words.bitsOf raised-words.anyOf raised-words.raisedBits
-    raised-words.anyRaised raised-words.blocksOne raised-words.blocksAny wishes-steps.tenAtMost wishes-steps.cellOf turns-steps.runOf
-    wishes-steps.wishes wishes-steps.wantingWord turns-steps.rested turns-steps.restingWord turns-steps.nextCell turns-steps.nextRun
-    turns-steps.nextRuns walk-steps.chosenWord walk-steps.besideTaken walk-steps.mayTake walk-steps.takeOne walk-steps.takeFrom
+    guard-steps.stepAllWith guard-steps.clear guard-steps.clearAt laws-words.bitsOf laws-words.anyOf raised-words.raisedBits
+    raised-words.anyRaised raised-words.blocksOne raised-words.blocksAny wishes-steps.cellOf turns-steps.runOf
+    wishes-steps.wishes wishes-steps.wantingWord turns-steps.rested turns-steps.restingWord turns-steps.nextCell laws-latest.nextRun
+    turns-steps.nextRuns walk-steps.isCell walk-steps.chosenWord walk-steps.besideTaken walk-steps.mayTake walk-steps.takeOne walk-steps.takeFrom
     wishes-wants.wants wishes-word.inWord walk-word.withCellIf wishes-word.wordTo samples-samples.cellsFit samples-samples.sampleRefusals
     samples-samples.sampleVerdict samples-samples.commandRefusals samples-samples.commandVerdict samples-samples.keptCell
     samples-samples.trimmed pack-kept.afterLoad shown-shown.modeOrder shown-shown.firstMode shown-shown.switchesOf shown-shown.modeOf
     shown-shown.decisionOf state-state.nextTick state-state.freshBalance state-state.nextBalance state-state.wantWith
     state-state.acceptedPack state-state.freshPack pack-answers.offered pack-answers.withCommand pack-answers.commanded
     entries-entry.commandOf entries-entry.cellsFrom entries-entry.secondOf entries-entry.firstOf entries-entry.sampleOf
-    entries-entry.fieldsSay entries-entry.entryOf telling-turns.turnedBy telling-turns.turnOf answers-texts.lineOf answers-texts.headerText
+    entries-entry.fieldsSay entries-entry.entryOf log-answers-tell.outcomeOf log-answers-tell.tell text-fields.lineOf answers-texts.headerText
     answers-texts.pageText answers-texts.decisionText answers-texts.refusedText log-replay.replayed
 example = refl

@@ -1,3 +1,2 @@
 pub mod Example
-pub mod Seventeen
 pub mod Pages

@@ -1,15 +1,12 @@
 -- `checkbyte::answer` meets its contract. Assumes nothing.
-use native.Mathlib.Omega.{arith}
 use lib.ListN.{length-take}
+use native.Mathlib.Omega.{arith}
 use borrow.Author.Needs.{needs}
 use Rattle.checkbyte.proofs.answer.Statement.{statement}
 use Rattle.checkbyte.proofs.answer.Tie as tie
 
-open-read-requires : tie.Need-open-read-requires
-open-read-requires c κs = search needs
-
-fail-requires : tie.Need-fail-requires
-fail-requires c κs = search needs
+open-requires : tie.Need-open-requires
+open-requires c κs = search needs
 
 returns : tie.Need-returns
 returns c = search needs
@@ -17,23 +14,17 @@ returns c = search needs
 read-all-requires : tie.Need-read-all-requires
 read-all-requires c κs = search needs
 
-fail-requires-2 : tie.Need-fail-requires-2
-fail-requires-2 c κs = search needs
-
 same-length : tie.Need-same-length
 same-length c = search needs
 
 returns-2 : tie.Need-returns-2
 returns-2 c = search needs
 
-write-all-requires : tie.Need-write-all-requires
-write-all-requires c κs = search needs
+slice-aggregate-say : tie.Need-slice-aggregate-say
+slice-aggregate-say c = search needs
 
-slice-aggregate-write-all : tie.Need-slice-aggregate-write-all
-slice-aggregate-write-all c = search needs
-
-write-all-requires-2 : tie.Need-write-all-requires-2
-write-all-requires-2 c κs = search needs
+say-requires : tie.Need-say-requires
+say-requires c κs = search needs
 
 same-length-2 : tie.Need-same-length-2
 same-length-2 c = search needs
@@ -60,16 +51,13 @@ pub answer-spec : {M : Type 1} → statement M
 answer-spec =
     tie.close
     (tie.spec
-    open-read-requires
-    fail-requires
+    open-requires
     returns
     read-all-requires
-    fail-requires-2
     same-length
     returns-2
-    write-all-requires
-    slice-aggregate-write-all
-    write-all-requires-2
+    slice-aggregate-say
+    say-requires
     same-length-2
     returns-3
     slice-reshare-prefix-bytes

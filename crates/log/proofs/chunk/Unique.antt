@@ -13,7 +13,7 @@ use Rattle.log_lines.specs.Chunk.{chunk-done, chunk-used, chunk-written, chunk-
 use Rattle.pack_state.specs.declared.Pack.{Pack}
 use Rattle.log.specs.declared.chunk.Chunk.{Chunk}
 use Rattle.log.specs.declared.chunk.Fed.{Fed}
-use Rattle.log.specs.Replay.{nextOf, answerOf, Chunked, Went}
+use Rattle.log.specs.Replay.{nextPack, lineText, AnswerChunk, Feed}
 use Rattle.log_texts.specs.Room.{room}
 use Rattle.log.proofs.chunk.answer_chunk.Reads as answer-chunk
 use Rattle.log.proofs.chunk.answer_chunk.Kinds as answer-chunk-kinds
@@ -26,15 +26,15 @@ chunk-same : {d d' : Bool} {u u' w w' : ℕ} {k k' : Pack} → d ≡ d' → u �
     → _≡_ {A = Chunk} (record { done = d; used = u; written = w; pack = k }) (record { done = d'; used = u'; written = w'; pack = k' })
 chunk-same a b c e = cc
 
-module _ (text o : List ℕ) (s : Pack) (x y : Chunk) (e f : List ℕ) (p : Chunked text o s (x .done) (x .used) (x .written) (x .pack) e)
-    (q : Chunked text o s (y .done) (y .used) (y .written) (y .pack) f) where
+module _ (text o : List ℕ) (s : Pack) (x y : Chunk) (e f : List ℕ) (p : AnswerChunk text o s (x .done) (x .used) (x .written) (x .pack) e)
+    (q : AnswerChunk text o s (y .done) (y .used) (y .written) (y .pack) f) where
   chunk-one : (x ≡ y) × (e ≡ f)
   chunk-one = (
-    chunk-same (chunk-done nextOf answerOf room text o s (x .done) (y .done) (x .used) (y .used) (x .written) (y .written) (x .pack) (y .pack) e f p q)
-        (chunk-used nextOf answerOf room text o s (x .done) (y .done) (x .used) (y .used) (x .written) (y .written) (x .pack) (y .pack) e f p q)
-        (chunk-written nextOf answerOf room text o s (x .done) (y .done) (x .used) (y .used) (x .written) (y .written) (x .pack) (y .pack) e f p q)
-        (chunk-state nextOf answerOf room text o s (x .done) (y .done) (x .used) (y .used) (x .written) (y .written) (x .pack) (y .pack) e f p q),
-    chunk-memory nextOf answerOf room text o s (x .done) (y .done) (x .used) (y .used) (x .written) (y .written) (x .pack) (y .pack) e f p q,
+    chunk-same (chunk-done nextPack lineText room text o s (x .done) (y .done) (x .used) (y .used) (x .written) (y .written) (x .pack) (y .pack) e f p q)
+        (chunk-used nextPack lineText room text o s (x .done) (y .done) (x .used) (y .used) (x .written) (y .written) (x .pack) (y .pack) e f p q)
+        (chunk-written nextPack lineText room text o s (x .done) (y .done) (x .used) (y .used) (x .written) (y .written) (x .pack) (y .pack) e f p q)
+        (chunk-state nextPack lineText room text o s (x .done) (y .done) (x .used) (y .used) (x .written) (y .written) (x .pack) (y .pack) e f p q),
+    chunk-memory nextPack lineText room text o s (x .done) (y .done) (x .used) (y .used) (x .written) (y .written) (x .pack) (y .pack) e f p q,
   )
 
 answer-chunk-one : (κs : Lfts 2) (a : Dens κs answer-chunk-kinds.ps) (x y : resT answer-chunk-kinds.r κs .Denot)
@@ -50,12 +50,12 @@ fed c h = record { done = c .done; used = c .used; held = h; written = c .writte
 abbrev part : Fed → Chunk
 part r = record { done = r .done; used = r .used; written = r .written; pack = r .pack }
 
-module _ (buf d : List ℕ) (s : Pack) (x y : Fed) (b b' e e' : List ℕ) (p : Went buf d s x b e) (q : Went buf d s y b' e') where
+module _ (buf d : List ℕ) (s : Pack) (x y : Fed) (b b' e e' : List ℕ) (p : Feed buf d s x b e) (q : Feed buf d s y b' e') where
   same : (part x ≡ part y) × (e ≡ e')
-  same = chunk-one buf d s (part x) (part y) e e' (p .chunked) (q .chunked)
+  same = chunk-one buf d s (part x) (part y) e e' (p .chunk) (q .chunk)
 
   held-same : x .held ≡ y .held
-  held-same = p .held ∙ ap (λ (c : Chunk). carriedOf (c .done) (length buf - c .used)) (same .0) ∙ sym (q .held)
+  held-same = p .carries ∙ ap (λ (c : Chunk). carriedOf (c .done) (length buf - c .used)) (same .0) ∙ sym (q .carries)
 
   fed-one : (x ≡ y) × (b ≡ b') × (e ≡ e')
   fed-one = (

@@ -10,15 +10,15 @@ use Rattle.refusals.specs.declared.Verdict.{Verdict}
 use Rattle.pack_state.specs.declared.Pack.{Pack}
 use Rattle.log.specs.declared.ends.Begun.{Begun}
 use Rattle.log_texts.specs.Room.{opened-one}
-use Rattle.log.proofs.ends.last.Reads as last
-use Rattle.log.proofs.ends.last.Kinds as last-kinds
+use Rattle.log.proofs.ends.put_closing.Reads as put-closing
+use Rattle.log.proofs.ends.put_closing.Kinds as put-closing-kinds
 use Rattle.log.proofs.ends.begin.Reads as begin
 use Rattle.log.proofs.ends.begin.Kinds as begin-kinds
 
-last-one : (κs : Lfts 1) (a : Dens κs last-kinds.ps) (x y : resT last-kinds.r κs .Denot)
-    (s t : AtExit (endedOf 1 last-kinds.ps last-kinds.r) κs)
-    → last.Post κs a x s → last.Post κs a y t → (x ≡ y) × (s .0 .now ≡ t .0 .now)
-last-one κs a x y s t p q = put-one (p .0) (q .0)
+put-closing-one : (κs : Lfts 1) (a : Dens κs put-closing-kinds.ps) (x y : resT put-closing-kinds.r κs .Denot)
+    (s t : AtExit (endedOf 1 put-closing-kinds.ps put-closing-kinds.r) κs)
+    → put-closing.Post κs a x s → put-closing.Post κs a y t → (x ≡ y) × (s .0 .now ≡ t .0 .now)
+put-closing-one κs a x y s t p q = put-one (p .0) (q .0)
 
 begun-same : {v v' : Verdict} {k k' : Pack} {w w' : ℕ} → v ≡ v' → k ≡ k' → w ≡ w'
     → _≡_ {A = Begun} (record { verdict = v; written = w; pack = k }) (record { verdict = v'; written = w'; pack = k' })

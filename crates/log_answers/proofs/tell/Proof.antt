@@ -1,5 +1,5 @@
--- `telling::tell` meets its contract. Assumes nothing.
-use Rattle.log_answers.specs.Turns.{turn-made}
+-- `log_answers::tell` meets its contract. Assumes nothing.
+use Rattle.log_answers.specs.Tell.{tell-made}
 use borrow.Author.Needs.{needs}
 use Rattle.log_answers.proofs.tell.Statement.{statement}
 use Rattle.log_answers.proofs.tell.Tie as tie
@@ -10,13 +10,13 @@ read-entry-requires c κs = search needs
 answered-by-requires : tie.Need-answered-by-requires
 answered-by-requires c κs = search needs
 
-turned-by-requires : tie.Need-turned-by-requires
-turned-by-requires c κs = search needs
+outcome-of-requires : tie.Need-outcome-of-requires
+outcome-of-requires c κs = search needs
 
 returns : tie.Need-returns
 returns c =
-    turn-made _ _ _ _ _ (c .before .before .read-entry .ensures) (c .before .answered-by .ensures .0) (c .turned-by .ensures) (c .before .answered-by .ensures .1)
+    tell-made _ _ _ _ _ (c .before .before .read-entry .ensures) (c .before .answered-by .ensures .0) (c .outcome-of .ensures) (c .before .answered-by .ensures .1)
 
 pub tell-spec : {M : Type 1} → statement M
 tell-spec =
-    tie.close (tie.spec read-entry-requires answered-by-requires turned-by-requires returns)
+    tie.close (tie.spec read-entry-requires answered-by-requires outcome-of-requires returns)

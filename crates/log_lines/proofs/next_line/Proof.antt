@@ -1,7 +1,7 @@
 -- `next_line` meets its contract: each way out is a case of the definition.
 use native.Mathlib.Omega.{arith}
 use borrow.Author.Needs.{needs}
-use Rattle.log_lines.specs.Walking.{next-found, next-short, next-long}
+use Rattle.log_lines.specs.Walking.{next-found, next-not-found}
 use Rattle.log_lines.proofs.next_line.Statement.{statement}
 use Rattle.log_lines.proofs.next_line.Tie as tie
 
@@ -15,17 +15,7 @@ returns : tie.Need-returns
 returns c = next-found _ _ _ (c .before .find .ensures .0) (c .if1 .taken)
 
 returns-2 : tie.Need-returns-2
-returns-2 c = let a = c .before .before .before .before .args in next-short (a .bytes .now) (a .from) _ (c .before .before .find .ensures .0) (omega arith) (omega arith)
-
-sub-if3 : tie.Need-sub-if3
-sub-if3 c = search needs
-
-returns-3 : tie.Need-returns-3
-returns-3 c = let a = c .before .before .before .before .before .args in next-short (a .bytes .now) (a .from) _ (c .before .before .before .find .ensures .0) (omega arith) (omega arith)
-
-returns-4 : tie.Need-returns-4
-returns-4 c = let a = c .before .before .before .before .before .args in next-long (a .bytes .now) (a .from) _ (c .before .before .before .find .ensures .0) (omega arith) (omega arith)
+returns-2 c = let a = c .before .before .before .args in next-not-found (a .bytes .now) (a .from) _ (c .before .find .ensures .0) (omega arith)
 
 pub next-line-spec : {M : Type 1} → statement M
-next-line-spec =
-    tie.close (tie.spec find-requires add-t6 returns returns-2 sub-if3 returns-3 returns-4)
+next-line-spec = tie.close (tie.spec find-requires add-t6 returns returns-2)

@@ -1,4 +1,4 @@
--- `answers::put_back` meets its contract. Assumes nothing.
+-- `log_texts::put_back` meets its contract. Assumes nothing.
 use native.Mathlib.Omega.{arith}
 use Rattle.log_texts.specs.Writing.{put-room, field-word, back-few, back-put}
 use borrow.Author.Needs.{needs}

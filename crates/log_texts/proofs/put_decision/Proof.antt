@@ -1,4 +1,4 @@
--- `answers::put_decision` meets its contract. Assumes nothing.
+-- `log_texts::put_decision` meets its contract. Assumes nothing.
 use native.Mathlib.Omega.{arith}
 use Rattle.log_texts.specs.Writing.{put-room, decision-few, decision-put}
 use borrow.Author.Needs.{needs}

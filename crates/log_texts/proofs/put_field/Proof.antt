@@ -1,4 +1,4 @@
--- `answers::put_field` meets its contract. Assumes nothing.
+-- `log_texts::put_field` meets its contract. Assumes nothing.
 use Rattle.log_texts.specs.Writing.{put-field}
 use borrow.Author.Needs.{needs}
 use Rattle.log_texts.proofs.put_field.Statement.{statement}

@@ -1,4 +1,4 @@
--- `answers::put_front` meets its contract. Assumes nothing.
+-- `log_texts::put_front` meets its contract. Assumes nothing.
 use native.Mathlib.Omega.{arith}
 use Rattle.log_texts.specs.Writing.{put-room, field-long, field-word, front-few, front-put}
 use borrow.Author.Needs.{needs}

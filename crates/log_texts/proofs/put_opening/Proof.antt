@@ -1,5 +1,6 @@
--- `answers::put_opening` meets its contract. Assumes nothing.
-use Rattle.log_texts.specs.Texts.{headerText, lineOf}
+-- `log_texts::put_opening` meets its contract. Assumes nothing.
+use Rattle.text_fields.specs.Fields.{lineOf}
+use Rattle.log_texts.specs.Texts.{headerText}
 use Rattle.log_texts.specs.Room.{roomed-short, roomed-put, opened}
 use borrow.Author.Needs.{needs}
 use Rattle.log_texts.proofs.put_opening.Statement.{statement}

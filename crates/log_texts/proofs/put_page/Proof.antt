@@ -1,4 +1,4 @@
--- `answers::put_page` meets its contract. Assumes nothing.
+-- `log_texts::put_page` meets its contract. Assumes nothing.
 use native.Mathlib.Omega.{arith}
 use Rattle.log_texts.specs.Writing.{put-room, field-byte, page-put, pageWord}
 use borrow.Author.Needs.{needs}

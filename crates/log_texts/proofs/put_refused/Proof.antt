@@ -1,4 +1,4 @@
--- `answers::put_refused` meets its contract. Assumes nothing.
+-- `log_texts::put_refused` meets its contract. Assumes nothing.
 use native.Mathlib.Omega.{arith}
 use Rattle.log_texts.specs.Writing.{put-room, field-byte, refused-few, refused-put, refusedWord}
 use borrow.Author.Needs.{needs}

@@ -1,4 +1,4 @@
--- `answers::put_told` meets its contract. Assumes nothing.
+-- `log_texts::put_told` meets its contract. Assumes nothing.
 use native.Mathlib.Omega.{arith}
 use Rattle.log_texts.specs.Room.{roomed-short, roomed-made}
 use borrow.Author.Needs.{needs}

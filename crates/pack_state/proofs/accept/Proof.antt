@@ -1,4 +1,4 @@
--- `state::accept` meets its contract. Assumes nothing.
+-- `pack_state::accept` meets its contract. Assumes nothing.
 use Rattle.pack_state.specs.State.{acceptedPack}
 use borrow.Author.Needs.{needs}
 use Rattle.pack_state.proofs.accept.Statement.{statement}

@@ -1,11 +1,11 @@
--- `state::next_balance` meets its contract. Assumes nothing.
+-- `pack_state::next_balance` meets its contract. Assumes nothing.
 use Rattle.pack_state.specs.State.{nextBalance}
 use borrow.Author.Needs.{needs}
 use Rattle.pack_state.proofs.next_balance.Statement.{statement}
 use Rattle.pack_state.proofs.next_balance.Tie as tie
 
-resting-now-requires : tie.Need-resting-now-requires
-resting-now-requires c κs = search needs
+resting-requires : tie.Need-resting-requires
+resting-requires c κs = search needs
 
 choose-requires : tie.Need-choose-requires
 choose-requires c κs = search needs
@@ -19,9 +19,9 @@ next-start-requires c κs = search needs
 returns : tie.Need-returns
 unfolding nextBalance
 returns c =
-    rw (c .next-start .ensures, c .before .next-runs .ensures, c .before .before .choose .ensures .walked, c .before .before .before .resting-now .ensures)
+    rw (c .next-start .ensures, c .before .next-runs .ensures, c .before .before .choose .ensures .walked, c .before .before .before .resting .ensures)
 
 pub next-balance-spec : {M : Type 1} → statement M
 next-balance-spec =
     tie.close
-    (tie.spec resting-now-requires choose-requires next-runs-requires next-start-requires returns)
+    (tie.spec resting-requires choose-requires next-runs-requires next-start-requires returns)

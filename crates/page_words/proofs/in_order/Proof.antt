@@ -1,4 +1,4 @@
--- `ranges::in_order` meets its contract. Assumes nothing.
+-- `page_words::in_order` meets its contract. Assumes nothing.
 use mir.Facts.{toZ-ofZ}
 use borrow.Author.Needs.{needs}
 use Rattle.page_words.proofs.in_order.Statement.{statement}

@@ -7,12 +7,12 @@ use Rattle.replay.proofs.answer.Tie as tie
 answer-lines-requires : tie.Need-answer-lines-requires
 answer-lines-requires c κs = search needs
 
-last-requires : tie.Need-last-requires
-last-requires c κs = search needs
+put-closing-requires : tie.Need-put-closing-requires
+put-closing-requires c κs = search needs
 
 answer-part-requires : tie.Need-answer-part-requires
 answer-part-requires c κs =
-    (c .before .before .before .before .before .before .before .before .before .before .before .before .answer-lines .ensures .0, omega (arith, c .before .before .before .before .before .last .ensures .1 (omega (arith, c .before .before .before .before .before .before .before .before .before .before .before .before .answer-lines .ensures .1))))
+    (c .before .before .before .before .before .before .before .before .before .before .before .before .answer-lines .ensures .0 .0, omega (arith, c .before .before .before .before .before .put-closing .ensures .1 (omega (arith, c .before .before .before .before .before .before .before .before .before .before .before .before .answer-lines .ensures .0 .1))))
 
 same-length : tie.Need-same-length
 same-length c = search needs
@@ -37,7 +37,7 @@ answer-spec =
     tie.close
     (tie.spec
     answer-lines-requires
-    last-requires
+    put-closing-requires
     answer-part-requires
     same-length
     same-length-2

@@ -1,6 +1,7 @@
 -- `replay::answer_lines` meets its contract. The loop keeps: what waits is in the buffer, the buffers keep their lengths, and the pack is kept.
--- Assumes nothing.
-use mathlib.Core.Path.{_≡_, refl}
+-- It ends well only where the log has ended, since `files::read_more` says so only where no line is left. Assumes nothing.
+use mathlib.Core.Path.{_≡_, refl, sym}
+use mathlib.Core.Bool.{true≢false}
 use Prim.Native.Nat.{_≤_}
 use lib.ListN.{length}
 use Rattle.pack.specs.Kept.{Kept}
@@ -10,10 +11,10 @@ use Rattle.replay.proofs.answer_lines.Statement.{statement}
 use Rattle.replay.proofs.answer_lines.Tie as tie
 
 abbrev Inv-loop : tie.InvT-loop
-Inv-loop name fd buf₀ first out₀ k₀ have₀ turns₀ t13 buf out k have turns = (have ≤ length buf) × (length buf ≡ length buf₀) × (length out ≡ length out₀) × Kept k
+Inv-loop name fd buf₀ first out₀ k₀ have₀ turns₀ t12 buf out k have turns = (have ≤ length buf) × (length buf ≡ length buf₀) × (length out ≡ length out₀) × Kept k
 
 abbrev μ-loop : tie.MeasureT-loop
-μ-loop name fd buf₀ first out₀ k₀ have₀ turns₀ t13 buf out k have turns = turns
+μ-loop name fd buf₀ first out₀ k₀ have₀ turns₀ t12 buf out k have turns = turns
 
 loop-holds : tie.Need-loop-holds Inv-loop μ-loop
 loop-holds c = (c .before .before .before .pre .1, refl, refl, c .before .before .before .pre .0)
@@ -32,14 +33,11 @@ same-length-2 c = search needs
 
 returns : tie.Need-returns Inv-loop μ-loop
 returns c =
-    (c .before .before .before .before .before .before .answer-part .ensures .0, omega (arith, c .before .before .before .before .before .before .answer-part .ensures .1, c .before .before .before .before .before .before .before .before .before .before .loop .inv .1))
+    let a = c .before .before .before .before .before .before .answer-part .ensures in
+    ((a .0 .0, omega (arith, a .0 .1, c .before .before .before .before .before .before .before .before .before .before .loop .inv .1)), λ t. absurd (true≢false (sym (rw t at (c .if1 .taken)))))
 
 read-more-requires : tie.Need-read-more-requires Inv-loop μ-loop
-read-more-requires c κs =
-    omega (arith, c .before .before .before .before .before .before .before .before .answer-part .ensures .1)
-
-fail-requires : tie.Need-fail-requires Inv-loop μ-loop
-fail-requires c κs = search needs
+read-more-requires c κs = search needs
 
 same-length-3 : tie.Need-same-length-3 Inv-loop μ-loop
 same-length-3 c = search needs
@@ -49,10 +47,8 @@ same-length-4 c = search needs
 
 returns-2 : tie.Need-returns-2 Inv-loop μ-loop
 returns-2 c =
-    (c .before .before .before .before .before .before .before .before .before .before .before .before .before .before .answer-part .ensures .0, omega (arith, c .before .before .before .before .before .before .before .before .before .before .before .before .before .before .answer-part .ensures .1, c .before .before .before .before .before .before .before .before .before .before .before .before .before .before .before .before .before .before .loop .inv .1))
-
-has-ended-requires : tie.Need-has-ended-requires Inv-loop μ-loop
-has-ended-requires c κs = search needs
+    let a = c .before .before .before .before .before .before .before .before .before .before .before .before .before .answer-part .ensures in
+    ((a .0 .0, omega (arith, a .0 .1, c .before .before .before .before .before .before .before .before .before .before .before .before .before .before .before .before .before .loop .inv .1)), λ t. absurd (true≢false (sym t)))
 
 same-length-5 : tie.Need-same-length-5 Inv-loop μ-loop
 same-length-5 c = search needs
@@ -62,23 +58,21 @@ same-length-6 c = search needs
 
 returns-3 : tie.Need-returns-3 Inv-loop μ-loop
 returns-3 c =
-    (c .before .before .before .before .before .before .before .before .before .before .before .before .before .before .before .answer-part .ensures .0, omega (arith, c .before .before .before .before .before .before .before .before .before .before .before .before .before .before .before .answer-part .ensures .1, c .before .before .before .before .before .before .before .before .before .before .before .before .before .before .before .before .before .before .before .loop .inv .1))
+    let a = c .before .before .before .before .before .before .before .before .before .before .before .before .before .before .answer-part .ensures in
+    ((a .0 .0, omega (arith, a .0 .1, c .before .before .before .before .before .before .before .before .before .before .before .before .before .before .before .before .before .before .loop .inv .1)), λ t. let e = c .before .before .before .before .before .read-more .ensures .1 (c .if3 .taken) in (e, a .1 e))
 
 loop-less : tie.Need-loop-less Inv-loop μ-loop
 loop-less c = omega arith
 
 loop-again : tie.Need-loop-again Inv-loop μ-loop
 loop-again c =
-    (omega (arith, c .before .before .before .before .before .before .read-more .ensures .1), omega arith, omega arith, c .before .before .before .before .before .before .before .before .before .before .before .before .before .before .before .answer-part .ensures .0)
+    (omega (arith, c .before .before .before .before .before .read-more .ensures .0), omega arith, omega arith, c .before .before .before .before .before .before .before .before .before .before .before .before .before .before .answer-part .ensures .0 .0)
 
-write-all-requires : tie.Need-write-all-requires Inv-loop μ-loop
-write-all-requires c κs = search needs
+slice-aggregate-say : tie.Need-slice-aggregate-say Inv-loop μ-loop
+slice-aggregate-say c = search needs
 
-slice-aggregate-write-all : tie.Need-slice-aggregate-write-all Inv-loop μ-loop
-slice-aggregate-write-all c = search needs
-
-write-all-requires-2 : tie.Need-write-all-requires-2 Inv-loop μ-loop
-write-all-requires-2 c κs = search needs
+say-requires : tie.Need-say-requires Inv-loop μ-loop
+say-requires c κs = search needs
 
 same-length-7 : tie.Need-same-length-7 Inv-loop μ-loop
 same-length-7 c = search needs
@@ -87,7 +81,7 @@ same-length-8 : tie.Need-same-length-8 Inv-loop μ-loop
 same-length-8 c = search needs
 
 returns-4 : tie.Need-returns-4 Inv-loop μ-loop
-returns-4 c = (c .before .before .before .before .loop .inv .3, omega arith)
+returns-4 c = ((c .before .before .before .loop .inv .3, omega arith), λ t. absurd (true≢false (sym t)))
 
 pub answer-lines-spec : {M : Type 1} → statement M
 answer-lines-spec =
@@ -102,19 +96,16 @@ answer-lines-spec =
     same-length-2
     returns
     read-more-requires
-    fail-requires
     same-length-3
     same-length-4
     returns-2
-    has-ended-requires
     same-length-5
     same-length-6
     returns-3
     loop-less
     loop-again
-    write-all-requires
-    slice-aggregate-write-all
-    write-all-requires-2
+    slice-aggregate-say
+    say-requires
     same-length-7
     same-length-8
     returns-4)

@@ -1,5 +1,6 @@
 -- `replay::answer_part` meets its contract. Assumes nothing.
 use lib.ListN.{length-take}
+use Rattle.log_lines.specs.Carrying.{carried-little}
 use native.Mathlib.Omega.{arith}
 use borrow.Author.Needs.{needs}
 use Rattle.replay.proofs.answer_part.Statement.{statement}
@@ -31,7 +32,8 @@ same-length-2 c = search needs
 
 returns : tie.Need-returns
 returns c =
-    (c .before .before .before .before .before .before .before .feed .ensures .1, let k = rw length-take at (c .before .before .before .before .before .before .before .feed .ensures .0 .few) in omega arith)
+    let f = c .before .before .before .before .before .before .before .feed .ensures in
+    ((f .1, let k = rw length-take at (f .0 .few) in omega arith), λ t. rw (f .0 .carries) (carried-little _ _ t))
 
 pub answer-part-spec : {M : Type 1} → statement M
 answer-part-spec =

@@ -1,4 +1,4 @@
--- `quantities::measured` meets its contract: each arm is the quantity of its name. Assumes nothing.
+-- `sample::measured` meets its contract: each arm is the quantity of its name. Assumes nothing.
 use native.Mathlib.Omega.{arith}
 use Rattle.sample.proofs.Signs.{widen-fits, widen-same, wide-word}
 use borrow.Author.Needs.{needs}

@@ -1,27 +1,31 @@
--- `turns::resting` meets its contract. The loop's invariant: the word is that of the resting cells of the pack among the first i.
+-- `bleed::resting::resting` meets its contract. The loop's invariant: the word is that of the resting cells of the pack among the first i.
 -- Assumes nothing.
-use Prim.Native.Nat.{_≤_, _-_}
-use mathlib.Core.Path.{_≡_, refl, _∙_}
+use Prim.Native.Nat.{suc, _≤_, _-_}
+use mathlib.Core.Path.{_≡_, _∙_}
 use mathlib.Core.Bool.{_&&_}
 use native.Mathlib.Omega.{arith}
-use lib.Dec.{leb}
+use lib.Dec.{ltb}
 use borrow.Author.Needs.{needs}
-use Rattle.bleed_wants.specs.Word.{wordTo, wordTo-next, wordTo-within}
-use Rattle.bleed_wants.specs.Steps.{tenAtMost}
+use borrow.Author.Tests.{eq-eqb, ne-eqb}
+use Rattle.laws.specs.Words.{bitsOf, bits-none, bits-next, bits-within}
+use Rattle.bleed_wants.specs.Word.{wordTo}
 use Rattle.bleed.specs.Resting.Steps.{rested, restingWord}
 use Rattle.bleed.specs.Resting.StepLaws.{rested-at}
 use Rattle.bleed.proofs.resting.resting.Statement.{statement}
 use Rattle.bleed.proofs.resting.resting.Tie as tie
 
 abbrev Inv-loop : tie.InvT-loop
-Inv-loop n limit runs word₀ i₀ word i = (i ≤ 10) × (word ≡ wordTo i (λ k. leb k n && rested limit runs k))
+Inv-loop n limit bled runs word₀ i₀ word i = (i ≤ 10) × (word ≡ bitsOf (λ j. ltb j n && rested limit runs (suc j)) i)
 
 abbrev μ-loop : tie.MeasureT-loop
-μ-loop n limit runs word₀ i₀ word i = 10 - i
+μ-loop n limit bled runs word₀ i₀ word i = 10 - i
+
+returns : tie.Need-returns Inv-loop μ-loop
+unfolding restingWord
+returns c = rw (eq-eqb _ _ (c .if1 .taken))
 
 loop-holds : tie.Need-loop-holds Inv-loop μ-loop
-unfolding wordTo
-loop-holds c = (omega arith, refl)
+loop-holds c = (omega arith, bits-none _)
 
 cast-rests-one : tie.Need-cast-rests-one Inv-loop μ-loop
 cast-rests-one c = search needs
@@ -43,15 +47,17 @@ loop-less c = omega arith
 
 loop-again : tie.Need-loop-again Inv-loop μ-loop
 loop-again c =
-    let a = c .before .before .before .before .args in (
+    let a = c .before .before .before .before .before .args in (
       omega arith,
-      wordTo-next _ _ _ _ _ (c .before .before .before .loop .inv .1)
+      bits-next _ _ _ _ _ (c .before .before .before .loop .inv .1)
           (c .before .rests-one .ensures ∙ rested-at (a .n) (a .limit) _ (c .before .before .before .loop .i)) (c .with-bit-if .ensures),
     )
 
-returns : tie.Need-returns Inv-loop μ-loop
-unfolding restingWord tenAtMost
-returns c = let e : c .before .loop .i ≡ 10 = omega arith in (rw e at (c .before .loop .inv .1)) ∙ wordTo-within 10 _ _
+returns-2 : tie.Need-returns-2 Inv-loop μ-loop
+unfolding restingWord wordTo
+returns-2 c =
+    let e : c .before .loop .i ≡ 10 = omega arith in
+    rw (ne-eqb _ _ (c .before .before .if1 .left)) ((rw e at (c .before .loop .inv .1)) ∙ bits-within 10 _ _)
 
 pub resting-spec : {M : Type 1} → statement M
 resting-spec =
@@ -59,6 +65,7 @@ resting-spec =
     (tie.spec
     Inv-loop
     μ-loop
+    returns
     loop-holds
     cast-rests-one
     array-read-rests-one
@@ -67,4 +74,4 @@ resting-spec =
     add-i
     loop-less
     loop-again
-    returns)
+    returns-2)

@@ -1,26 +1,25 @@
--- `log::answer_chunk` meets its contract. The loop keeps `Going` (crate lines, Chunk) and that the pack is kept. Assumes nothing.
+-- `log::chunk::answer_chunk` meets its contract. The loop keeps `Going` (crate log_lines, Chunk) and that the pack is kept. Assumes nothing.
 use mathlib.Core.Path.{sym, _∙_}
 use Prim.Native.Nat.{_-_}
 use lib.ListN.{length}
-use Rattle.log_lines.specs.Walking.{next-ends}
+use Rattle.log_lines.specs.Walking.{next-ends, next-unfinished}
 use Rattle.log_lines.specs.Chunk.{Going, going-start, going-done, going-full}
 use Rattle.pack.specs.Kept.{Kept}
-use Rattle.log.specs.Replay.{nextOf, answerOf, chunk-on}
+use Rattle.log.specs.Replay.{nextPack, lineText, chunk-on}
 use Rattle.log_texts.specs.Room.{room}
-use Rattle.log.proofs.chunk.Ends.{no-end}
 use borrow.Author.Needs.{needs}
 use native.Mathlib.Omega.{arith}
 use Rattle.log.proofs.chunk.answer_chunk.Statement.{statement}
 use Rattle.log.proofs.chunk.answer_chunk.Tie as tie
 
 abbrev Inv-loop : tie.InvT-loop
-Inv-loop bytes out₀ k₀ at₀ w₀ out k at w = Going nextOf answerOf room bytes out₀ k₀ at w k out × Kept k
+Inv-loop bytes out₀ k₀ at₀ w₀ out k at w = Going nextPack lineText room bytes out₀ k₀ at w k out × Kept k
 
 abbrev μ-loop : tie.MeasureT-loop
 μ-loop bytes out₀ k₀ at₀ w₀ out k at w = length bytes - at
 
 loop-holds : tie.Need-loop-holds Inv-loop μ-loop
-loop-holds c = (going-start nextOf answerOf room _ _ _, c .before .before .pre)
+loop-holds c = (going-start nextPack lineText room _ _ _, c .before .before .pre)
 
 next-line-requires : tie.Need-next-line-requires Inv-loop μ-loop
 next-line-requires c κs = search needs
@@ -28,12 +27,16 @@ next-line-requires c κs = search needs
 enum-known-n : tie.Need-enum-known-n Inv-loop μ-loop
 enum-known-n c = search needs
 
+enum-told : tie.Need-enum-told Inv-loop μ-loop
+enum-told c = search needs
+
 same-length : tie.Need-same-length Inv-loop μ-loop
-same-length c = c .before .before .loop .inv .0 .same
+same-length c = c .before .before .before .loop .inv .0 .same
 
 returns : tie.Need-returns Inv-loop μ-loop
 returns c =
-    let i = c .before .before .loop .inv in (going-done nextOf answerOf room _ _ _ _ _ _ _ (i .0) (no-end _ _ _ (c .before .next-line .ensures) (c .match .keys2)), i .1)
+    let i = c .before .before .before .loop .inv in
+    (going-done nextPack lineText room _ _ _ _ _ _ _ (i .0) (next-unfinished _ _ (sym (c .before .before .next-line .ensures) ∙ c .enum-told .given .1)), i .1)
 
 add-if1 : tie.Need-add-if1 Inv-loop μ-loop
 add-if1 c = search needs
@@ -45,7 +48,7 @@ returns-2 : tie.Need-returns-2 Inv-loop μ-loop
 returns-2 c =
     let i = c .before .before .before .before .before .loop .inv in let n = c .before .before .n .given in
     let e = next-ends _ _ (n .0 .0) (n .0 .1 .0) (sym (c .before .before .before .before .next-line .ensures) ∙ n .1) in
-    (going-full nextOf answerOf room _ _ _ _ _ _ _ (i .0) _ _ e (c .if1 .taken), i .1)
+    (going-full nextPack lineText room _ _ _ _ _ _ _ (i .0) _ _ e (c .if1 .taken), i .1)
 
 sub-line : tie.Need-sub-line Inv-loop μ-loop
 sub-line c =
@@ -89,6 +92,7 @@ answer-chunk-spec =
     loop-holds
     next-line-requires
     enum-known-n
+    enum-told
     same-length
     returns
     add-if1

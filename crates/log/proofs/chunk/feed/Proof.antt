@@ -1,5 +1,7 @@
--- `log::feed` meets its contract. Assumes nothing.
-use Rattle.log.specs.Replay.{went}
+-- `log::chunk::feed` meets its contract. Assumes nothing.
+use Rattle.log_lines.specs.Run.{feed-made}
+use Rattle.log_texts.specs.Room.{room}
+use Rattle.log.specs.Replay.{nextPack, lineText}
 use borrow.Author.Needs.{needs}
 use Rattle.log.proofs.chunk.feed.Statement.{statement}
 use Rattle.log.proofs.chunk.feed.Tie as tie
@@ -24,7 +26,7 @@ same-length-2 c = search needs
 
 returns : tie.Need-returns
 returns c =
-    let a = c .before .before .before .before .before .before .before .before .answer-chunk .ensures in (went _ _ _ _ _ _ (a .0) (c .before .before .before .before .before .carried .ensures .0) (c .before .before .before .move-down .ensures), a .1)
+    let a = c .before .before .before .before .before .before .before .before .answer-chunk .ensures in (feed-made nextPack lineText room _ _ _ _ _ _ _ _ _ _ (a .0) (c .before .before .before .before .before .carried .ensures .0) (c .before .before .before .move-down .ensures), a .1)
 
 pub feed-spec : {M : Type 1} → statement M
 feed-spec =

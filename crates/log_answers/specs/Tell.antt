@@ -1,0 +1,58 @@
+-- What a line of the log is answered with, and the pack behind it: document 01, "The replay program" and "Refusal numbers".
+-- Assumes nothing.
+use Prim.Native.Nat.{ℕ, _<_}
+use mathlib.Core.Path.{_≡_, refl, ap}
+use mathlib.Core.List.{List}
+use lib.ListN.{length}
+use Rattle.refusals.specs.declared.Verdict.{Verdict}
+use Rattle.refusals.specs.declared.Verdict.the-variants as verdict
+use Rattle.pack_state.specs.declared.Pack.{Pack}
+use Rattle.pack.specs.declared.Answered.{Answered}
+use Rattle.pack.specs.Answers.{offered, commanded, answered}
+use Rattle.pack.specs.Kept.{Kept}
+use Rattle.pack_shown.specs.Shown.{decisionOf}
+use Rattle.log_entries.specs.declared.Kind.{Kind}
+use Rattle.log_entries.specs.declared.Kind.the-variants.{Offer, Command, Malformed}
+use Rattle.log_entries.specs.declared.Entry.{Entry}
+use Rattle.log_entries.specs.Entry.{entryOf}
+use Rattle.log_entries.specs.Reading.{overlong}
+use Rattle.log_answers.specs.declared.Told.{Told}
+use Rattle.log_answers.specs.declared.Told.the-variants.{Decided, Refused}
+use Rattle.log_answers.specs.declared.Outcome.{Outcome}
+
+abbrev pub outcome : Kind → Told → Pack → Outcome
+outcome k t p = record { kind = k; told = t; pack = p }
+
+-- An accepted sample or command gives the decision of the pack behind it. "A refused line gives `refused` and the number."
+abbrev pub toldOf : Verdict → Pack → Told
+toldOf verdict.Accepted p = Decided (decisionOf p)
+toldOf (verdict.Refused number word) p = Refused number
+
+unfoldable pub outcomeOf : Kind → Answered → Outcome
+outcomeOf k a = outcome k (toldOf (a .verdict) (a .pack)) (a .pack)
+
+-- "A malformed line is no sample and no command: it gives 17, whatever other row seems to fit."
+abbrev pub answeredAs : Kind → Pack → Entry → Answered
+answeredAs Offer p e = offered p (e .sample)
+answeredAs Command p e = commanded p (e .command)
+answeredAs Malformed p e = answered (verdict.Refused 17 0) p
+
+-- What a line does to a pack.
+unfoldable pub tell : Pack → List ℕ → Outcome
+tell p line = outcomeOf (entryOf line .kind) (answeredAs (entryOf line .kind) p (entryOf line))
+
+-- The kind of a line is told by its bytes alone: a sample was accepted exactly where it is `Offer` and the answer a decision.
+pub tell-kind : (p : Pack) (line : List ℕ) → tell p line .kind ≡ entryOf line .kind
+unfolding tell outcomeOf
+tell-kind p line = refl
+
+-- All lines over 128 bytes do the same.
+pub tell-overlong : (p : Pack) (line : List ℕ) → 128 < length line → tell p line ≡ outcome Malformed (Refused 17) p
+unfolding tell outcomeOf
+tell-overlong p line h = ap (λ (e : Entry). outcomeOf (e .kind) (answeredAs (e .kind) p e)) (overlong line h)
+
+-- The line was read as e, and the pack's answer a was told as r.
+pub tell-made : (p : Pack) (line : List ℕ) (e : Entry) (a : Answered) (r : Outcome) → e ≡ entryOf line → a ≡ answeredAs (e .kind) p e
+    → r ≡ outcomeOf (e .kind) a → Kept (a .pack) → (r ≡ tell p line) × Kept (r .pack)
+unfolding tell outcomeOf
+tell-made p line e a r ee ea er kept = (rw (← ee, ← ea) er, rw er kept)
