@@ -1,4 +1,4 @@
-// Whose turn it is, cell by cell: the start cell of the next sample, the runs of bled samples, and who rests.
+// What is kept from one sample to the next: the cell after a cell, the runs of bled samples, and who rests by them.
 ghost use mathlib.Core.Path.{_≡_};
 ghost use mathlib.Core.Bool.{_&&_};
 ghost use lib.Dec.{leb, ltb};

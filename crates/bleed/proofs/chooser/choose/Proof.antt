@@ -1,4 +1,4 @@
--- `bleed::choose` meets its contract. The loop's invariant: what the cells that are left make of the word is what all cells make
+-- `bleed::chooser::choose` meets its contract. The loop's invariant: what the cells that are left make of the word is what all cells make
 -- of the empty one, so that at the end the word is the whole walk's.
 -- Assumes nothing.
 use mathlib.Core.Path.{_≡_, refl, sym, _∙_}

@@ -1,4 +1,4 @@
--- `bleed::holds` meets its contract. Assumes nothing.
+-- `bleed::chooser::holds` meets its contract. Assumes nothing.
 use borrow.Author.Needs.{needs}
 use borrow.Author.Tests.{lt-ltb, le-ltb}
 use Rattle.bleed_wants.specs.Word.{inWord}

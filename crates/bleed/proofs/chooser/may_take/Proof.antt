@@ -1,4 +1,4 @@
--- `bleed::may_take` meets its contract: a test that fails ends it, and the count of ones is the answer. Assumes nothing.
+-- `bleed::chooser::may_take` meets its contract: a test that fails ends it, and the count of ones is the answer. Assumes nothing.
 use borrow.Author.Needs.{needs}
 use mathlib.Core.Path.{sym, _∙_}
 use Rattle.bleed.specs.Walk.Steps.{mayTake}

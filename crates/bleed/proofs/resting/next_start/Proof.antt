@@ -1,4 +1,4 @@
--- `turns::next_start` meets its contract. Assumes nothing.
+-- `bleed::resting::next_start` meets its contract. Assumes nothing.
 use borrow.Author.Needs.{needs}
 use borrow.Author.Tests.{lt-ltb, le-ltb}
 use Rattle.bleed.specs.Resting.Steps.{nextCell}
