@@ -14,6 +14,12 @@ pub struct CellNo(pub u8);
 // The number p of a protection, from 0.
 pub struct ProtectionNo(pub u8);
 
+// What a protection looks at and the levels it is held against, in the unit of the samples: mV, mA or tenths of a kelvin.
+pub struct Level(pub i32);
+
+// A trip or release level in the unit of the page: mV, mA or degrees.
+pub struct PageLevel(pub i32);
+
 // A word read as a signed number. Currents and the page's signed levels come in this way.
 pub fn signed_of(word: u16) -> i16
     ensures { λ r. ⌜ r ≡ signedOf word ⌝ }
