@@ -2,6 +2,7 @@
 ghost use mathlib.Core.Path.{_≡_};
 ghost use Rattle.protections.specs.Direction.{back};
 ghost use Rattle.protections.specs.Table.{rowWith, rowAt};
+use units::Level;
 use units::ProtectionNo;
 
 // How many protections a page and a pack state hold.
@@ -38,10 +39,10 @@ pub fn back_of(d: Direction) -> Direction
     }
 }
 
-// What a page says of one protection: levels in the sample's unit (mV, mA, tenths of a kelvin), the two run lengths, the switch mask.
+// What a page says of one protection: its levels, in the unit of what it looks at, the two run lengths, the switch mask.
 pub struct Limits {
-    pub trip: i32,
-    pub release: i32,
+    pub trip: Level,
+    pub release: Level,
     pub n: u8,
     pub m: u8,
     pub mask: u8,
