@@ -1,0 +1,96 @@
+# Shell functions for the words of ./keeper that speak to people. To be read after kit.sh and run.sh, with `here` set.
+
+KEEPER_DOCS=$here/docs
+export KEEPER_DOCS
+
+# Runs an awk program of tools/awk over the tables of docs/, byte by byte in every locale.
+tell() { # PROGRAM
+    LC_ALL=C awk -f "$here/tools/awk/tables.awk" -f "$here/tools/awk/log.awk" -f "$here/tools/awk/$1.awk"
+}
+
+# Writes a text that is known whole, and says so where that fails.
+put() { # TEXT
+    { printf '%s\n' "$1"; } 2>/dev/null && return 0
+    say "standard output could not be written: make room, or write to another place"
+    return 1
+}
+
+# Sets octal to a page's bytes, three digits each behind a blank. The file is read once, so that what is judged and what is explained are the same
+# bytes; a file of more than 4096 is no page, however it goes on.
+read_page() { # FILE
+    if [ ! -e "$1" ]; then say "$1: no such file"; return 1; fi
+    if [ -d "$1" ]; then say "$1: a folder, not a page"; return 1; fi
+    octal=$({ od -An -v -to1 -N 4097 <"$1" || echo failed; } 2>/dev/null | tr -d '\n')
+    case $octal in
+    *failed) say "$1: could not be read; look at its permissions"; return 1 ;;
+    esac
+}
+
+# The page's first COUNT bytes.
+page_bytes() { # COUNT
+    printf '%b' "$(printf '%s\n' "$octal" | cut -c "1-$((4 * $1))" | sed 's/ /\\0/g')"
+}
+
+# Sets number and word to the proved judge's refusal of the page that was read; both are empty where it is accepted.
+judge_page() {
+    number='' word=''
+    answer=$(page_bytes 4097 | run replay /dev/stdin /dev/null) || return 1
+    case $answer in
+    'page	'*)
+        number=${answer#*	}
+        word=${number#*	} number=${number%	*}
+        ;;
+    'tick	'*) ;;
+    *)
+        say "the judge's answer was cut short: try again"
+        return 1
+        ;;
+    esac
+}
+
+# The refusal in a line: `refused`, number, word, and a sentence that says what is wrong.
+refusal() {
+    right=''
+    if [ "$number" = 4 ]; then right=$(page_bytes $((${#octal} / 4 - 1)) | run checkbyte /dev/stdin) || return 1; fi
+    printf '%s\n' "$octal" | KEEPER_NUMBER=$number KEEPER_WORD=$word KEEPER_RIGHT=$right tell judge
+}
+
+# The value of a word of the page that was read.
+page_word() { # NUMBER
+    printf '%s\n' "$octal" | awk -v w="$1" '{ a = $(2 * w + 1); b = $(2 * w + 2)
+        print int(a / 100) * 64 + int(a % 100 / 10) * 8 + a % 10 + 256 * (int(b / 100) * 64 + int(b % 100 / 10) * 8 + b % 10) }'
+}
+
+# Runs an awk program over the replay of a log, with the log beside it. A log that can be read once only, as a pipe, goes to both by a named pipe.
+# What awk writes goes through cat, since not every awk says that it could not write.
+beside() { # PROGRAM PAGE LOG
+    KEEPER_CELLS=$(page_word 1) KEEPER_LOG=$3 source=''
+    if [ "$3" = - ] || { [ -e "$3" ] && [ ! -f "$3" ] && [ ! -d "$3" ]; }; then
+        source=$3
+        room=$(mktemp -d) && mkfifo "$room/log" || { say "a named pipe could not be made in ${TMPDIR:-/tmp}: make room there"; return 1; }
+        clean_up() { rm -rf "$room"; }
+        end_with_us
+        KEEPER_LOG=$room/log
+    fi
+    export KEEPER_CELLS KEEPER_LOG
+    exec 7>&1
+    ends=$({ { both "$1" "$2" "$3"; echo "told $?" >&6; } | { cat >&7 2>/dev/null; echo "wrote $?" >&6; }; } 6>&1 | tr '\n' ' ')
+    told=${ends#*told } wrote=${ends#*wrote }
+    told=${told%% *} wrote=${wrote%% *}
+    if [ "$wrote" -gt 128 ]; then return "$wrote"; fi
+    if [ "$wrote" -ne 0 ]; then
+        say "standard output could not be written: make room, or write to another place"
+        return 1
+    fi
+    case $told$ends in 0*'unread 1 '*) return 1 ;; esac
+    return "$told"
+}
+
+# The replay, and behind it the awk program.
+both() { # PROGRAM PAGE LOG
+    if [ -z "$source" ]; then
+        { run replay "$2" "$3"; printf 'end\t%s\n' $?; } | tell "$1"
+    else
+        { if [ "$source" = - ]; then cat; else cat <"$source"; fi || echo "unread $?" >&6; } | tee "$KEEPER_LOG" | { run replay "$2" /dev/stdin; printf 'end\t%s\n' $?; } | tell "$1"
+    fi
+}
