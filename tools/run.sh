@@ -26,6 +26,11 @@ end_with_us() {
     trap clean_up EXIT
 }
 
+leave_signals() {
+    watched=''
+    trap - INT TERM HUP EXIT
+}
+
 # A signal ends what was started, cleans up, and then ends this shell in its own way.
 stop() { # SIGNAL
     trap '' INT TERM HUP
@@ -90,6 +95,20 @@ is_proved() { # PROGRAM
     is_marked "$1" && { is_installed || [ "$(sed -n 1p "$1.proved")" = "sources $(sources)" ]; }
 }
 
+# A crate and the crates of this tree that it depends on, a line each.
+crates_under() { # NAME
+    awk -v name="$1" '
+        { sub(/#.*/, ""); i = index($0, ":"); if (i) { n = substr($0, 1, i - 1); gsub(/[ \t]/, "", n); deps[n] = substr($0, i + 1) } }
+        function visit(n,    a, k, m) {
+            if (!(n in deps) || n in seen) return
+            seen[n] = 1
+            m = split(deps[n], a, " ")
+            for (k = 1; k <= m; k++) visit(a[k])
+            print n
+        }
+        END { visit(name) }' "$here/crates.txt"
+}
+
 # Takes the one lock of this tree, as file 9: who builds has it, and so has all that the build starts. It leaves no file behind.
 lock() {
     if ! command -v flock >/dev/null 2>&1; then
@@ -132,15 +151,12 @@ build() { # NAME
         return 1
     fi
     can_write "$1 has to be built" || return 1
-    before=$watched
-    [ -n "$before" ] || end_with_us
+    ours=''
+    if [ -z "$watched" ]; then ours=1 && end_with_us; fi
     lock && { is_proved "$program" || together "$here/tools/prove" "$1"; }
     built=$?
     unlock
-    if [ -z "$before" ]; then
-        trap - INT TERM HUP EXIT
-        watched=''
-    fi
+    [ -z "$ours" ] || leave_signals
     return "$built"
 }
 
@@ -152,7 +168,7 @@ run() { # NAME WORDS..
     name=$1
     build "$name" || return 1
     shift
-    if ! { true >&1; } 2>/dev/null; then
+    if ! { true 3>&1; } 2>/dev/null; then
         say "standard output is closed, so there is nowhere to write to"
         return 1
     fi
