@@ -40,9 +40,9 @@ stop() { # SIGNAL
     kill -s "$1" $$
 }
 
-# Ends a group with all that it has started, and waits until it is gone.
-end_group() { # GROUP
-    kill -TERM -- "-$1" 2>/dev/null || return 0
+# Ends a group with all that it has started, or a process that leads none, and waits until it is gone.
+end_group() { # NUMBER
+    kill -TERM -- "-$1" 2>/dev/null || kill -TERM "$1" 2>/dev/null || return 0
     patience=50
     while kill -0 -- "-$1" 2>/dev/null && [ "$patience" -gt 0 ]; do
         patience=$((patience - 1))
