@@ -82,8 +82,31 @@ beside() { # PROGRAM PAGE LOG
         say "standard output could not be written: make room, or write to another place"
         return 1
     fi
-    case $told$ends in 0*'unread 1 '*) return 1 ;; esac
+    case $told$ends in 0*'unread 1 '*)
+        say "$3: could not be read to its end"
+        return 1
+        ;;
+    esac
     return "$told"
+}
+
+# Runs a command that reads /dev/stdin by that name. A pipe and a terminal can be opened so; a file would be read from its start again, and a socket
+# cannot be opened, so those go through a pipe.
+from_input() { # COMMAND..
+    if [ -p /dev/stdin ] || [ -t 0 ]; then
+        "$@"
+        return
+    fi
+    exec 7>&1
+    ends=$({ { cat 2>/dev/null || echo "unread $?" >&6; } | { "$@" >&7; echo "status $?" >&6; }; } 6>&1 | tr '\n' ' ')
+    status=${ends#*status }
+    status=${status%% *}
+    case $status$ends in 0*'unread 1 '*)
+        say "standard input could not be read to its end"
+        return 1
+        ;;
+    esac
+    return "$status"
 }
 
 # The replay, and behind it the awk program.
@@ -91,6 +114,6 @@ both() { # PROGRAM PAGE LOG
     if [ -z "$source" ]; then
         { run replay "$2" "$3"; printf 'end\t%s\n' $?; } | tell "$1"
     else
-        { if [ "$source" = - ]; then cat; else cat <"$source"; fi || echo "unread $?" >&6; } | tee "$KEEPER_LOG" | { run replay "$2" /dev/stdin; printf 'end\t%s\n' $?; } | tell "$1"
+        { if [ "$source" = - ]; then cat; else cat <"$source"; fi 2>/dev/null || echo "unread $?" >&6; } | tee "$KEEPER_LOG" | { run replay "$2" /dev/stdin; printf 'end\t%s\n' $?; } | tell "$1"
     fi
 }
