@@ -5,7 +5,8 @@ export KEEPER_DOCS
 
 # Runs an awk program of tools/awk over the tables of docs/, byte by byte in every locale.
 tell() { # PROGRAM
-    LC_ALL=C awk -f "$here/tools/awk/tables.awk" -f "$here/tools/awk/log.awk" -f "$here/tools/awk/$1.awk"
+    a=$here/tools/awk
+    LC_ALL=C awk -f "$a/tables.awk" -f "$a/log.awk" -f "$a/wrong.awk" -f "$a/$1.awk"
 }
 
 # Writes a text that is known whole, and says so where that fails.
@@ -57,8 +58,11 @@ refusal() {
 
 # The value of a word of the page that was read.
 page_word() { # NUMBER
-    printf '%s\n' "$octal" | awk -v w="$1" '{ a = $(2 * w + 1); b = $(2 * w + 2)
-        print int(a / 100) * 64 + int(a % 100 / 10) * 8 + a % 10 + 256 * (int(b / 100) * 64 + int(b % 100 / 10) * 8 + b % 10) }'
+    at=$((2 * $1))
+    # shellcheck disable=SC2086
+    set -- $octal
+    shift "$at"
+    echo $((0$1 + 256 * 0$2))
 }
 
 # Runs an awk program over the replay of a log, with the log beside it. A log that can be read once only, as a pipe, goes to both by a named pipe.

@@ -28,7 +28,7 @@ function may_name(n, l, w,    p) {
 
 function about_word(n, w,    l, p) {
     l = layouts
-    if (w !~ /^[0-9]+$/ || length(w) > 4 || w + 0 > page_last[l]) wrong("a page has words 0 to " page_last[l] ", and '" shown(w) "' is none of them")
+    if (w !~ /^(0|[1-9][0-9]*)$/ || length(w) > 4 || w + 0 > page_last[l]) wrong("a page has words 0 to " page_last[l] ", and '" shown(w) "' is none of them")
     w += 0
     print "word\t" w "\t" name_of(l, w) "\t" allowed(l, w)
     p = protection_of(l, w)
@@ -46,7 +46,7 @@ BEGIN {
         for (n = 1; n <= refusals; n++) print n "\t" refuses[n] "\t" filled(meaning[n])
         exit 0
     }
-    if (n !~ /^[0-9]+$/ || !((n + 0) in refuses) || length(n) > 4) wrong("the refusals are numbered 1 to " refusals ", and '" shown(n) "' is none of them")
+    if (n !~ /^[1-9][0-9]*$/ || !((n + 0) in refuses) || length(n) > 4) wrong("the refusals are numbered 1 to " refusals ", and '" shown(n) "' is none of them")
     n += 0
     print n "\t" refuses[n] "\t" filled(meaning[n])
     if (refuses[n] == "page") for (l = 1; l <= layouts; l++) print "words\t" words_named(n, l) (layouts > 1 ? "\tof a page of " page_bytes[l] " bytes" : "")
