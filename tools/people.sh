@@ -68,19 +68,23 @@ page_word() { # NUMBER
 # Runs an awk program over the replay of a log, with the log beside it. A log that can be read once only, as a pipe, goes to both by a named pipe.
 # What awk writes goes through cat, since not every awk says that it could not write.
 beside() { # PROGRAM PAGE LOG
-    KEEPER_CELLS=$(page_word 1) KEEPER_LOG=$3 source=''
+    KEEPER_CELLS=$(page_word 1) source='' pipe=''
     if [ "$3" = - ] || { [ -e "$3" ] && [ ! -f "$3" ] && [ ! -d "$3" ]; }; then
         source=$3
         room=$(mktemp -d) && mkfifo "$room/log" || { say "a named pipe could not be made in ${TMPDIR:-/tmp}: make room there"; return 1; }
         clean_up() { rm -rf "$room"; }
         end_with_us
-        KEEPER_LOG=$room/log
+        pipe=$room/log
     fi
-    export KEEPER_CELLS KEEPER_LOG
+    export KEEPER_CELLS
     exec 7>&1
     ends=$({ { both "$1" "$2" "$3"; echo "told $?" >&6; } | { cat >&7 2>/dev/null; echo "wrote $?" >&6; }; } 6>&1 | tr '\n' ' ')
-    told=${ends#*told } wrote=${ends#*wrote }
-    told=${told%% *} wrote=${wrote%% *}
+    told=1 wrote=1
+    case $ends in *told*wrote* | *wrote*told*)
+        told=${ends#*told } wrote=${ends#*wrote }
+        told=${told%% *} wrote=${wrote%% *}
+        ;;
+    esac
     if [ "$wrote" -gt 128 ]; then return "$wrote"; fi
     if [ "$wrote" -ne 0 ]; then
         say "standard output could not be written: make room, or write to another place"
@@ -113,11 +117,15 @@ from_input() { # COMMAND..
     return "$status"
 }
 
-# The replay, and behind it the awk program.
+# The replay, and behind it the awk program, which has the log as file 5. The named pipe is opened here, so that who writes into it never waits for a
+# reader that is gone; where the log cannot be read the replay says so.
 both() { # PROGRAM PAGE LOG
-    if [ -z "$source" ]; then
-        { run replay "$2" "$3"; printf 'end\t%s\n' $?; } | tell "$1"
+    if [ -n "$pipe" ]; then
+        { if [ "$source" = - ]; then cat; else cat <"$source"; fi 2>/dev/null || echo "unread $?" >&6; } | tee "$pipe" |
+            { run replay "$2" /dev/stdin; printf 'end\t%s\n' $?; } | tell "$1" 5<"$pipe"
     else
-        { if [ "$source" = - ]; then cat; else cat <"$source"; fi 2>/dev/null || echo "unread $?" >&6; } | tee "$KEEPER_LOG" | { run replay "$2" /dev/stdin; printf 'end\t%s\n' $?; } | tell "$1"
+        log=$3
+        if [ ! -r "$log" ] || [ -d "$log" ]; then log=/dev/null; fi
+        { run replay "$2" "$3"; printf 'end\t%s\n' $?; } | tell "$1" 5<"$log"
     fi
 }

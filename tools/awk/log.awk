@@ -1,9 +1,9 @@
-# The log's lines, one after the other, from the file that KEEPER_LOG names in the environment. awk programs differ over NUL, so tr hands it over as
+# The log's lines, one after the other, from file 5. awk programs differ over NUL, so tr hands it over as
 # byte 1, and byte 1 as byte 2. Of a line the first 2000 bytes are read.
 
-# Starts to read. A named pipe lets nobody write until somebody reads, so the first line is read at once and kept.
+# Starts to read, before the first answer is waited for: where the log comes by a pipe it is answered only as far as it is read.
 function open_log() {
-    log_lines = "{ LC_ALL=C tr '\\000\\001' '\\001\\002' <\"$KEEPER_LOG\" | LC_ALL=C cut -b 1-2000; } 2>/dev/null"
+    log_lines = "{ LC_ALL=C tr '\\000\\001' '\\001\\002' <&5 | LC_ALL=C cut -b 1-2000; } 2>/dev/null"
     ahead = (log_lines | getline first_line) > 0 ? 1 : 2
 }
 

@@ -9,7 +9,7 @@ function fail(why) {
 }
 
 # A text in gnuplot's single quotes, without what could end them or leave the line.
-function quoted(text) {
+function in_quotes(text) {
     gsub(/[^ -~]/, "?", text)
     gsub(/'/, "''", text)
     return "'" text "'"
@@ -99,13 +99,13 @@ function line_of(k,    g) {
 
 # The names at the left of a panel of bars, the first one on top.
 function names(count, list,    i, out) {
-    for (i = 1; i <= count; i++) out = out (i > 1 ? ", " : "") quoted(list[i]) " " (count - i)
+    for (i = 1; i <= count; i++) out = out (i > 1 ? ", " : "") in_quotes(list[i]) " " (count - i)
     return out
 }
 
 # What stands above a panel, at its left.
 function heading(title) {
-    print "set label 2 " quoted(title) " at graph 0,1 left offset 0,0.8 noenhanced font ',14' textcolor rgb '#222222'"
+    print "set label 2 " in_quotes(title) " at graph 0,1 left offset 0,0.8 noenhanced font ',14' textcolor rgb '#222222'"
 }
 
 # One panel: where it stands, its title, its rows.
@@ -149,9 +149,9 @@ function draw(    k, list) {
     print "unset key"
     print "set style fill solid 1.0 noborder"
 
-    print "set label 1 " quoted(ENVIRON["KEEPER_TITLE"] ": " grouped(samples) (samples == 1 ? " sample" : " samples")) \
+    print "set label 1 " in_quotes(ENVIRON["KEEPER_TITLE"] ": " grouped(samples) (samples == 1 ? " sample" : " samples")) \
         " at screen 0.5,0.978 center noenhanced font ',17' textcolor rgb '#111111'"
-    if (each > 1) print "set label 3 " quoted(grouped(each) " samples in each column: cells from lowest to highest; bled or raised at least once; on at all of them") \
+    if (each > 1) print "set label 3 " in_quotes(grouped(each) " samples in each column: cells from lowest to highest; bled or raised at least once; on at all of them") \
         " at screen 0.5,0.957 center noenhanced font ',12' textcolor rgb '#333333'"
 
     lift()
