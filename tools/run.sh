@@ -126,14 +126,14 @@ unlock() {
 }
 
 # Whether all that a build writes can be written; where it cannot, the kit may answer from an old result. Says so.
-can_write() {
-    mkdir -p "$here/target/bin" "$here/target/log" "$here/target/stamp" "$here/target/rlib" "$here/target/obj" 2>/dev/null
-    for one in "$here"/target "$here"/target/* "$here"/target/bin/* "$here"/target/log/* "$here"/target/stamp/* "$here"/target/rlib/* "$here"/target/obj/*; do
-        if [ -e "$one" ] && [ -w "$one" ]; then continue; fi
-        case $one in *'/*') [ ! -d "${one%/*}" ] || continue ;; esac
-        say "$1, and $(id -un) cannot write $here/target: call this once as $(owner "$here"), or in a copy of your own"
-        return 1
+can_write() { # WHY
+    t=$here/target good=1
+    mkdir -p "$t/bin" "$t/log" "$t/stamp" "$t/rlib" "$t/obj" 2>/dev/null || good=''
+    for one in "$t" "$t"/* "$t"/bin/* "$t"/log/* "$t"/stamp/* "$t"/rlib/* "$t"/obj/*; do
+        [ ! -e "$one" ] || [ -w "$one" ] || good=''
     done
+    [ -n "$good" ] || say "$1, and $(id -un) cannot write $t: call this once as $(owner "$here"), whose folder it is, or in a copy of your own"
+    [ -n "$good" ]
 }
 
 # Who a file belongs to.
