@@ -57,12 +57,12 @@ wrote_nothing() { [ ! -s "$made/out" ]; }
 said_one_line() { [ "$(wc -l <"$made/err")" -eq 1 ]; }
 rt_not_called() { [ ! -s "$CALLS" ]; }
 
-# Waits until a condition holds, ten seconds at most.
+# Waits until a condition holds, twenty seconds at most.
 soon() { # CONDITION
-    left=100
+    patience=200
     until eval "$1"; do
-        left=$((left - 1))
-        [ "$left" -gt 0 ] || return 1
+        patience=$((patience - 1))
+        [ "$patience" -gt 0 ] || return 1
         sleep 0.1
     done
 }
@@ -85,13 +85,20 @@ group_gone() { # GROUP
 # Begins a command as a terminal does: in a group of its own, with no signal ignored. Its number is in `begun`.
 begin() { # COMMAND..
     : >"$CALLS"
+    : >"$made/out"
     TMPDIR=$made/tmp PATH=$with env --default-signal=INT,QUIT setsid "$@" >"$made/out" 2>"$made/err" </dev/null &
     begun=$!
 }
 
-# Ctrl-C: the signal goes to the whole group. Sets status.
-ctrl_c() {
-    kill -INT -- "-$begun"
+# Waits for what was begun, twenty seconds at most, and sets status.
+ends_soon() {
+    soon 'gone "$begun"' || kill -KILL "-$begun"
     wait "$begun" 2>/dev/null
     status=$?
+}
+
+# Ctrl-C: the signal goes to the whole group.
+ctrl_c() {
+    kill -INT "-$begun"
+    ends_soon
 }
