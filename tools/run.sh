@@ -34,22 +34,25 @@ leave_signals() {
 # A signal ends what was started, cleans up, and then ends this shell in its own way.
 stop() { # SIGNAL
     trap '' INT TERM HUP
-    for group in $groups; do end_group "$group"; done
+    end_groups
     clean_up
     trap - "$1" EXIT
     kill -s "$1" $$
 }
 
-# Ends a group with all that it has started, or a process that leads none, and waits until it is gone.
-end_group() { # NUMBER
-    kill -TERM -- "-$1" 2>/dev/null || kill -TERM "$1" 2>/dev/null || return 0
-    patience=50
-    while kill -0 -- "-$1" 2>/dev/null && [ "$patience" -gt 0 ]; do
-        patience=$((patience - 1))
-        [ "$patience" -ne 10 ] || kill -KILL -- "-$1" 2>/dev/null
-        sleep 0.1
-        wait "$1" 2>/dev/null
+# Ends the groups with all that they have started, and waits until they are gone: three seconds, and then they are not asked any more.
+# There is no `--` before a group, since some shells take it for a number. A number that leads no group is a process.
+end_groups() {
+    for group in $groups; do kill -TERM "-$group" 2>/dev/null || kill -TERM "$group" 2>/dev/null; done
+    for patience in 1 2 3 4 5 6 7 8 9 10 11 12 13 14 15; do
+        left=''
+        for group in $groups; do
+            if kill -0 "-$group" 2>/dev/null; then left="$left $group"; fi
+        done
+        [ -n "$left" ] || return 0
+        sleep 0.2
     done
+    for group in $left; do kill -KILL "-$group" 2>/dev/null; done
 }
 
 # Starts a command beside us, in a group of its own whose number is then in `started`. Its standard input is empty.
@@ -126,14 +129,14 @@ unlock() {
 }
 
 # Whether all that a build writes can be written; where it cannot, the kit may answer from an old result. Says so.
-can_write() {
-    mkdir -p "$here/target/bin" "$here/target/log" "$here/target/stamp" "$here/target/rlib" "$here/target/obj" 2>/dev/null
-    for one in "$here"/target "$here"/target/* "$here"/target/bin/* "$here"/target/log/* "$here"/target/stamp/* "$here"/target/rlib/* "$here"/target/obj/*; do
-        if [ -e "$one" ] && [ -w "$one" ]; then continue; fi
-        case $one in *'/*') [ ! -d "${one%/*}" ] || continue ;; esac
-        say "$1, and $(id -un) cannot write $here/target: call this once as $(owner "$here"), or in a copy of your own"
-        return 1
+can_write() { # WHY
+    t=$here/target good=1
+    mkdir -p "$t/bin" "$t/log" "$t/stamp" "$t/rlib" "$t/obj" 2>/dev/null || good=''
+    for one in "$t" "$t"/* "$t"/bin/* "$t"/log/* "$t"/stamp/* "$t"/rlib/* "$t"/obj/*; do
+        [ ! -e "$one" ] || [ -w "$one" ] || good=''
     done
+    [ -n "$good" ] || say "$1, and $(id -un) cannot write $t: call this once as $(owner "$here"), whose folder it is, or in a copy of your own"
+    [ -n "$good" ]
 }
 
 # Who a file belongs to.
