@@ -1,12 +1,5 @@
 # plot: the picture of the tour, what is drawn in it, a long log, and what cannot be done. Read by tests/people/run.
 
-# A stand-in for gnuplot that keeps the program it is given, and one that fails half way.
-mkdir -p "$made/keeping" "$made/failing" "$made/bare"
-printf '#!/bin/sh\ncat >"$KEPT"\necho "<svg></svg>"\n' >"$made/keeping/gnuplot"
-printf '#!/bin/sh\ncat >/dev/null\necho "<svg>"\necho "no such terminal" >&2\nexit 1\n' >"$made/failing/gnuplot"
-chmod +x "$made/keeping/gnuplot" "$made/failing/gnuplot"
-KEPT=$here/$made/program
-export KEPT
 page=tests/examples/tour.page log=tests/examples/tour.log
 
 # The data of one part of the program that was kept.

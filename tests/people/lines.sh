@@ -75,6 +75,7 @@ none "the words of $told generated logs are those of the plain output (seed $see
 # ---- each awk says the same
 ./keeper replay --explain tests/examples/tour.page tests/examples/tour.log >"$made/tour.told"
 mkdir -p "$made/bin"
+draw_by "$here/tools" >"$made/tour.drawn"
 for one in mawk gawk 'busybox awk' original-awk; do
     command -v "${one%% *}" >/dev/null 2>&1 || continue
     printf '#!/bin/sh\nexec %s "$@"\n' "$one" >"$made/bin/awk"
@@ -84,6 +85,8 @@ for one in mawk gawk 'busybox awk' original-awk; do
         PATH=$here/$made/bin:$PATH ./keeper replay --explain tests/examples/tour.page tests/examples/tour.log | cmp - "$made/tour.told"
         [ "$(PATH=$here/$made/bin:$PATH ./keeper judge "$made/cut16.page")" = "$(./keeper judge "$made/cut16.page")" ] || echo 'judge differs'
         [ "$(PATH=$here/$made/bin:$PATH ./keeper explain)" = "$(./keeper explain)" ] || echo 'explain differs'
+        PATH=$here/$made/bin:$PATH ./keeper replay --explain tests/examples/tour.page tests/examples/tour.log 2>/dev/null >/dev/full && echo 'it does not say that it could not write'
+        draw_by "$here/$made/bin" | cmp - "$made/tour.drawn"
     } >"$made/differ" 2>&1
     none "$one says the same" "$(cat "$made/differ")"
 done
