@@ -114,10 +114,11 @@ crates_under() { # NAME
 
 # Takes the one lock of this tree, as file 9: who builds has it, and so has all that the build starts. It leaves no file behind.
 lock() {
-    if ! command -v flock >/dev/null 2>&1; then
-        say "the command 'flock' is missing, and two builds at once would break each other: install the package util-linux"
+    for tool in flock setsid; do
+        command -v "$tool" >/dev/null 2>&1 && continue
+        say "the command '$tool' is missing, without which a build can neither be kept to one nor ended: install the package util-linux"
         return 1
-    fi
+    done
     exec 9<"$here/crates"
     flock -n 9 && return 0
     say "another build is under way here; waiting for it .."
