@@ -68,6 +68,10 @@ page_word() { # NUMBER
 # Runs an awk program over the replay of a log, with the log beside it. A log that can be read once only, as a pipe, goes to both by a named pipe.
 # What awk writes goes through cat, since not every awk says that it could not write.
 beside() { # PROGRAM PAGE LOG
+    if [ ! -f "$2" ]; then
+        say "$2: the page is read twice here, so it has to be a file: save it first"
+        return 1
+    fi
     KEEPER_CELLS=$(page_word 1) source='' pipe=''
     if [ "$3" = - ] || { [ -e "$3" ] && [ ! -f "$3" ] && [ ! -d "$3" ]; }; then
         source=$3

@@ -120,6 +120,7 @@ none 'nothing is left behind' "$(ls -A "$made/tmp")"
 # ---- what cannot be done
 called 'a refused page is explained' 3 "$(./keeper judge "$made/cut16.page")" '' replay --explain "$made/cut16.page" "$log"
 called 'a log that is not there' 1 '' 'No such file' replay --explain "$page" "$made/none.log"
+if cat "$page" | ./keeper replay --explain /dev/stdin "$log" >"$made/got" 2>"$made/said" || [ -s "$made/got" ] || ! grep -q 'has to be a file' "$made/said"; then bad 'a page by a pipe'; else ok 'a page by a pipe: it says that it has to be a file'; fi
 called 'a folder as the log' 1 '' 'folder\|directory' replay --explain "$page" tests
 called 'replay --explain without a log' 2 '' 'usage: ./keeper replay \[--explain\] PAGE LOG' replay --explain "$page"
 called 'replay with three files' 2 '' 'usage: ./keeper replay \[--explain\] PAGE LOG' replay "$page" "$log" "$log"
