@@ -1,4 +1,4 @@
-# Shell functions for the C tests: a C compiler that makes x86-64 objects. To be read after kit.sh.
+# Shell functions for the C tests: a C compiler that makes x86-64 objects. To be read after kit.sh, in the top folder of the tree.
 
 # Compiles a C file with the compiler that find_cc has chosen.
 compile() { # OUTPUT FILE
@@ -9,7 +9,8 @@ compile() { # OUTPUT FILE
 # Whether a compiler's objects link and run: some have the target and no headers for it.
 cc_works() { # COMPILER AND OPTIONS
     cc=$1
-    trial=$(mktemp -d) || return 1
+    trial=target/trial.$$
+    mkdir -p "$trial" || return 1
     printf '#include <stdint.h>\n#include <stdio.h>\nint main(void) { uint32_t x = 7; printf("%%lu\\n", (unsigned long)x); return 0; }\n' >"$trial/trial.c"
     compile "$trial/trial.o" "$trial/trial.c" 2>/dev/null && link_program "$trial/trial" "$trial/trial.o" 2>/dev/null \
         && [ "$(run_linked "$trial/trial" 2>/dev/null)" = 7 ]

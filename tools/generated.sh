@@ -1,5 +1,5 @@
 # Shell functions for tests that hold a program against the independent one, docs/src/history.rs, on generated pages and logs.
-# They count with tools/count.sh, and build with tools/rustc.sh.
+# They count with tools/count.sh, build with tools/rustc.sh and end with tools/run.sh.
 
 history=target/history
 
@@ -14,7 +14,7 @@ compare() { # PROGRAM FOLDER CASES FIRST STEP
     while [ "$i" -lt "$3" ]; do
         one=$2/$i
         "$history" "$1" "$one.page" "$one.log" >"$one.want" 2>"$one.said"
-        run_linked "target/bin/$1" "$one.page" "$one.log" >"$one.got" 2>>"$one.said"
+        run_linked "$programs/$1" "$one.page" "$one.log" >"$one.got" 2>>"$one.said"
         if [ ! -s "$one.said" ] && cmp -s "$one.want" "$one.got"; then rm -f "$one".*; fi
         i=$((i + $5))
     done
@@ -30,8 +30,9 @@ generated() { # WHAT PROGRAM FOLDER SEED CASES
     rm -rf "$3"
     "$history" cases "$4" "$5" "$3" && [ "$(cases_in "$3" | wc -l)" -eq "$5" ] || exit 1
     compare "$2" "$3" "$5" 0 2 &
+    beside=$! groups="$groups $!"
     compare "$2" "$3" "$5" 1 2
-    wait
+    await "$beside"
     left=$(cases_in "$3" | head -n 5 | tr '\n' ' ')
     if [ -n "$left" ]; then bad "$1 from seed $4: unlike at case $left"; else ok "$1 from seed $4"; fi
 }

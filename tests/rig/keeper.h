@@ -1,4 +1,4 @@
-/* The pack keeper for the bench rig's host program. Link target/staticlib/librig.a, which `rt staticlib rig` makes (x86-64).
+/* The pack keeper for the bench rig's host program. Link the archive that `./keeper staticlib` makes (x86-64).
  * Each function answers for every input, reads only the bytes that it is handed, changes none and keeps nothing.
  * A null pointer is fine where the length is 0. */
 #ifndef KEEPER_H
@@ -18,6 +18,23 @@ uint32_t keeper_check_byte(const uint8_t *bytes, size_t length);
 /* The judge of a settings page of any length: 0 if it is accepted, else the refusal's number times 256 plus the word at
  * fault. Numbers 1 to 4 name word 0; 5 to 8 name the lowest word at fault, for 8 the trip word. */
 uint32_t keeper_judge_page(const uint8_t *page, size_t length);
+
+/* The two parts of the judge's number: the refusal, 0 if the page is accepted, and the word at fault. */
+#define KEEPER_REFUSAL(answer) ((uint32_t)(answer) / 256u)
+#define KEEPER_WORD(answer) ((uint32_t)(answer) % 256u)
+
+/* The refusals of a page. */
+enum {
+    KEEPER_ACCEPTED = 0,
+    KEEPER_NOT_128_BYTES = 1,
+    KEEPER_BYTES_SWAPPED = 2,     /* word 0 reads 0xA417 */
+    KEEPER_NO_MARK = 3,           /* word 0 is otherwise not 0x17A4 */
+    KEEPER_CHECK_BYTE = 4,        /* the check byte differs */
+    KEEPER_RESERVED_NOT_0 = 5,    /* a reserved word, or byte 126 as word 63 */
+    KEEPER_SETTING_RANGE = 6,     /* one of words 1 to 8 is out of range */
+    KEEPER_PROTECTION_RANGE = 7,  /* a word of a protection is out of range */
+    KEEPER_LEVELS_ORDER = 8       /* trip and release are not in their order */
+};
 
 #ifdef __cplusplus
 }

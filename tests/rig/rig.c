@@ -70,6 +70,47 @@ static void swapped(void)
     ends("pages worked by hand");
 }
 
+/* The names of the header: each refusal is found in the number of a page that has it, and so is the word. The page of zeros becomes good
+ * from the front: mark, check byte, reserved words, settings, protections. */
+static void named(void)
+{
+    static uint8_t page[128];
+    uint32_t answer = keeper_judge_page(page, 5);
+    expect("5 bytes", KEEPER_REFUSAL(answer), KEEPER_NOT_128_BYTES);
+    page[0] = 0x17, page[1] = 0xA4;
+    expect("a swapped mark", KEEPER_REFUSAL(keeper_judge_page(page, 128)), KEEPER_BYTES_SWAPPED);
+    page[0] = 0;
+    expect("no mark", KEEPER_REFUSAL(keeper_judge_page(page, 128)), KEEPER_NO_MARK);
+    page[0] = 0xA4, page[1] = 0x17;
+    expect("a wrong check byte", KEEPER_REFUSAL(keeper_judge_page(page, 128)), KEEPER_CHECK_BYTE);
+    page[2 * 9] = 1;
+    page[127] = (uint8_t)keeper_check_byte(page, 127);
+    answer = keeper_judge_page(page, 128);
+    expect("a reserved word", KEEPER_REFUSAL(answer), KEEPER_RESERVED_NOT_0);
+    expect("the reserved word's number", KEEPER_WORD(answer), 9);
+    page[2 * 9] = 0;
+    page[127] = (uint8_t)keeper_check_byte(page, 127);
+    answer = keeper_judge_page(page, 128);
+    expect("no cells", KEEPER_REFUSAL(answer), KEEPER_SETTING_RANGE);
+    expect("the word of the cells", KEEPER_WORD(answer), 1);
+    page[2] = 2, page[4] = page[6] = page[10] = page[12] = 1;
+    page[127] = (uint8_t)keeper_check_byte(page, 127);
+    answer = keeper_judge_page(page, 128);
+    expect("N of 0", KEEPER_REFUSAL(answer), KEEPER_PROTECTION_RANGE);
+    expect("the word of N", KEEPER_WORD(answer), 18);
+    for (int p = 0; p < 8; p++)
+        page[2 * (18 + 5 * p)] = page[2 * (19 + 5 * p)] = 1;
+    page[127] = (uint8_t)keeper_check_byte(page, 127);
+    answer = keeper_judge_page(page, 128);
+    expect("trip and release equal", KEEPER_REFUSAL(answer), KEEPER_LEVELS_ORDER);
+    expect("the word of the trip", KEEPER_WORD(answer), 16);
+    for (int p = 0; p < 8; p++)
+        page[2 * ((p == 1 || p == 3 || p == 4 ? 17 : 16) + 5 * p)] = 1;
+    page[127] = (uint8_t)keeper_check_byte(page, 127);
+    expect("a good page", keeper_judge_page(page, 128), KEEPER_ACCEPTED);
+    ends("the names of keeper.h");
+}
+
 /* Compares a function's answers with those of a file. */
 static void compare(const char *name, const char *line, uint32_t (*function)(const uint8_t *, size_t))
 {
@@ -102,6 +143,7 @@ int main(int count, char **words)
     }
     published();
     swapped();
+    named();
     compare(words[1], "%2x %8192s", keeper_check_byte);
     compare(words[2], "%u %8192s", keeper_judge_page);
     printf("%u passed, %u failed\n", passed, failed);
