@@ -20,7 +20,7 @@ use Rattle.pack.specs.Kept.{pageOf, pastAfter}
 use Rattle.pack.specs.After.{after}
 use Rattle.bus.specs.declared.answer.Replied.{Replied}
 use Rattle.bus.specs.declared.answer.Replied.the-variants.{Sent, Refused}
-use Rattle.bus.specs.Replies.{repliedTo, bytesAfter, repliedAfter, bufferAfter}
+use Rattle.bus.specs.Replies.{answerTo, bufferOf, repliedAfter, bufferAfter}
 use Rattle.bus.specs.Demands.{answer-is, buffer-is}
 
 -- ---- a line
@@ -51,7 +51,7 @@ abbrev pub lent : List ℕ
 lent = 0 ∷ 0 ∷ 0 ∷ []
 
 unfoldable pub wordLine : Pack → ℕ → List ℕ
-wordLine p c = lineFor c (repliedTo p c 3) (bytesAfter p c lent)
+wordLine p c = lineFor c (answerTo p c 3) (bufferOf p c lent)
 
 -- The lines of the first commands, and of all 256.
 unfoldable pub wordLines : Pack → ℕ → List ℕ
@@ -158,14 +158,14 @@ module _ {d : List ℕ} {at : ℕ} {p : ℕ} {e : List ℕ} {q : ℕ} {g : List 
         let c = hex-length (getD l 2 0) in
         rw (three-parts l n) (put-then (rw length-append (omega arith)) (put-then (omega arith) x y) z)
 
-    pub line-put : (k : Pack) (c : ℕ) (a : Replied) (three : List ℕ) → at + 15 ≤ length d → a ≡ repliedTo k c 3 → three ≡ bytesAfter k c lent
+    pub line-put : (k : Pack) (c : ℕ) (a : Replied) (three : List ℕ) → at + 15 ≤ length d → a ≡ answerTo k c 3 → three ≡ bufferOf k c lent
         → length (answerText a three) ≤ 11 → Put d at (hexByte c ++ (9 ∷ [])) p e → Put e p (answerText a three) q g → Put g q (10 ∷ []) r o
         → Put d at (wordLine k c) r o × (length (wordLine k c) ≤ 15)
     unfolding wordLine
     line-put k c a three h ea et few x y z =
         let s = command-length c in
         let t : length (answerText a three ++ (10 ∷ [])) ≡ length (answerText a three) + 1 = length-append (answerText a three) (10 ∷ []) in
-        let is : lineFor c (repliedTo k c 3) (bytesAfter k c lent) ≡ (hexByte c ++ (9 ∷ [])) ++ (answerText a three ++ (10 ∷ [])) =
+        let is : lineFor c (answerTo k c 3) (bufferOf k c lent) ≡ (hexByte c ++ (9 ∷ [])) ++ (answerText a three ++ (10 ∷ [])) =
         sym (ap₂ (lineFor c) ea et) ∙ line-parts c a three in (
           rw (is, ← append-assoc (hexByte c ++ (9 ∷ [])) (answerText a three) (10 ∷ [])) (put-then (rw length-append (omega arith)) (put-then (omega arith) x y) z),
           rw (is, length-append) (omega arith),

@@ -86,7 +86,8 @@ module _ (page : Settings) (good : Good page) where
   -- At how many of m samples, j samples before the latest, cell k is in the word, and at how many it was bled.
   pub words-among : (k : ℕ) → 1 ≤ k → (m j : ℕ) (h : List Sample)
       → among m (λ w. inWord w k) (drop j (bledWords page h)) ≡ among m (has k) (drop j (bledsAfter page h))
-  words-among k first m j h = alike-among (λ w. inWord w k) (has k) m _ _ (later-alike k first j h)
+  words-among k first m j h =
+      alike-among (λ w. inWord w k) (has k) m (drop j (bledWords page h)) (drop j (bledsAfter page h)) (later-alike k first j h)
 
   -- Cell k wants at n + 1 accepted samples in a row, j samples before the latest: it is bled in at least one of them.
   pub words-fair : (k : ℕ) → 1 ≤ k → k ≤ page .rules .n → (j : ℕ) (h : List Sample)
@@ -100,7 +101,8 @@ module _ (page : Settings) (good : Good page) where
   pub words-run : (k : ℕ) → 1 ≤ k → (j : ℕ) (h : List Sample)
       → lastAll (suc (page .rules .r)) (λ w. inWord w k) (drop j (bledWords page h)) ≡ false
   words-run k first j h =
-      alike-last (λ w. inWord w k) (has k) (suc (page .rules .r)) _ _ (later-alike k first j h)
+      alike-last (λ w. inWord w k) (has k) (suc (page .rules .r)) (drop j (bledWords page h)) (drop j (bledsAfter page h))
+      (later-alike k first j h)
       ∙ byPage page never-over-R k j (wishesOf page h)
 
   -- Never are two neighbours bled at once: bits i and i + 1 stand for cells i + 1 and i + 2.

@@ -28,7 +28,7 @@ use Rattle.text_fields.specs.Quoted.{quoted}
 use Rattle.text_fields.specs.Decimal.{decimal}
 use Rattle.text_fields.specs.Fields.{fieldsOf, lineOf}
 use Rattle.text_fields.specs.Finding.{lacks}
-use Rattle.text_numbers.specs.Numbers as numbers
+use Rattle.text_numbers.specs.Numbers as text
 use Rattle.text_numbers.specs.Numbers.{digitsTo, numberTo}
 use Rattle.guard_raised.specs.Words.{raisedWord, blocked}
 use Rattle.bleed.specs.Walk.Balance.{bledWord}
@@ -232,7 +232,7 @@ pub lines-said
     ∷ [])
     ≡ quoted "0\t0\t0\t0\t0\n1\t0\t3\t2\t3\n2\t0\t3\t1\t3\n3\t1\t2\t0\t21\nrefused\t9\nrefused\t17\n"
 unfolding computed decisionAfter modeAfter raisedWord blocked bledAfter bledWord story decisionText refusedText decimal fieldsOf lineOf lacks
-    digitsTo numberTo numbers.signedOf entryOf commandOf cellsFrom secondOf firstOf sampleOf fieldsSay
+    digitsTo numberTo text.signedOf entryOf commandOf cellsFrom secondOf firstOf sampleOf fieldsSay
 lines-said = refl
 
 -- ---- the settings of these cases are those of accepted pages

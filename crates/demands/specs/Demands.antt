@@ -1,5 +1,5 @@
 -- THE THREE DEMANDS: the user's sentences, one after the other, and under each the theorem that says it. They speak of what the public
--- calls answer and show: `judged` of a page; `offered`, `commanded` and `repliedTo` of a pack; `tell` of a line; and `shown`, which is
+-- calls answer and show: `judged` of a page; `offered`, `commanded` and `answerTo` of a pack; `tell` of a line; and `shown`, which is
 -- what `decide` shows after a load of any bytes and any calls since, refused ones among them. Lists have the latest first.
 -- Assumes nothing.
 use mathlib.Core.Path.{_≡_, ap, _∙_}
@@ -42,7 +42,7 @@ use Rattle.bus_table.specs.Table.{rowOf}
 use Rattle.bus_words.specs.Words.{sentWord, saidOf, wordAfter}
 use Rattle.bus_words.specs.Demands.{word-is}
 use Rattle.bus.specs.declared.answer.Replied.the-variants as reply
-use Rattle.bus.specs.Replies.{replyRefusals, repliedTo, repliedAfter, bytesAfter, bufferAfter}
+use Rattle.bus.specs.Replies.{replyRefusals, answerTo, repliedAfter, bufferOf, bufferAfter}
 use Rattle.bus.specs.Demands as bus
 use Rattle.log_entries.specs.Entry.{entryOf}
 use Rattle.log_lines.specs.Lines.{linesOf}
@@ -80,8 +80,8 @@ pub demand-1-command : (p : Pack) (c : ℕ) → IsAnswered (commanded p c .verdi
 demand-1-command p c = is-answered _ _ (answers.command-accepted-exactly p c) (answers.command-refused-exactly p c)
 
 -- A command on the bus, with a buffer of any length: sent, or refused by rows 12 to 15.
-pub demand-1-reply : (p : Pack) (c room : ℕ) → IsReplied (repliedTo p c room) (replyRefusals (p .rules .n) (p .sampled) c room)
-unfolding repliedTo
+pub demand-1-reply : (p : Pack) (c room : ℕ) → IsReplied (answerTo p c room) (replyRefusals (p .rules .n) (p .sampled) c room)
+unfolding answerTo
 demand-1-reply p c room =
     is-replied _ _ (bus.sent-exactly (p .rules .n) (p .sampled) c room) (bus.refused-exactly (p .rules .n) (p .sampled) c room)
 
@@ -116,13 +116,13 @@ demand-1-command-refused = answers.command-refused-exactly
 
 -- A command on the bus.
 pub demand-1-reply-sent : (p : Pack) (c room : ℕ)
-    → (repliedTo p c room ≡ reply.Sent) ↔ NoFault (replyRefusals (p .rules .n) (p .sampled) c room)
-unfolding repliedTo
+    → (answerTo p c room ≡ reply.Sent) ↔ NoFault (replyRefusals (p .rules .n) (p .sampled) c room)
+unfolding answerTo
 demand-1-reply-sent p = bus.sent-exactly (p .rules .n) (p .sampled)
 
 pub demand-1-reply-refused : (p : Pack) (c room k : ℕ)
-    → (repliedTo p c room ≡ reply.Refused k) ↔ Lowest (replyRefusals (p .rules .n) (p .sampled) c room) k 0
-unfolding repliedTo
+    → (answerTo p c room ≡ reply.Refused k) ↔ Lowest (replyRefusals (p .rules .n) (p .sampled) c room) k 0
+unfolding answerTo
 demand-1-reply-refused p = bus.refused-exactly (p .rules .n) (p .sampled)
 
 -- A line of the log: 17 exactly if it is malformed, in any pack.
@@ -142,7 +142,7 @@ demand-1-line-untouched = answers.refused-line-untouched
 
 -- The reply buffer, of any length. Pages, lines and the pack of a reply are lent to be read only.
 pub demand-1-buffer-untouched : (p : Pack) (c k : ℕ) (buffer : List ℕ)
-    → repliedTo p c (length buffer) ≡ reply.Refused k → bytesAfter p c buffer ≡ buffer
+    → answerTo p c (length buffer) ≡ reply.Refused k → bufferOf p c buffer ≡ buffer
 demand-1-buffer-untouched = bus.refused-untouched
 
 -- ---- "If a page is taken, the same page with all its byte pairs swapped is refused."
@@ -189,12 +189,12 @@ module _ (bytes : List ℕ) (es : List Event) where
   demand-2-word = word-is bytes es
 
   -- Bus replies: the answer to every command, with a buffer of any length,
-  pub demand-2-reply : (c room : ℕ) → repliedTo (after bytes es) c room ≡ repliedAfter (pageOf bytes) (pastAfter bytes es) c room
+  pub demand-2-reply : (c room : ℕ) → answerTo (after bytes es) c room ≡ repliedAfter (pageOf bytes) (pastAfter bytes es) c room
   demand-2-reply = bus.answer-is bytes es
 
   -- and what then stands in the buffer.
   pub demand-2-buffer : (c : ℕ) (buffer : List ℕ)
-      → bytesAfter (after bytes es) c buffer ≡ bufferAfter (pageOf bytes) (pastAfter bytes es) c buffer
+      → bufferOf (after bytes es) c buffer ≡ bufferAfter (pageOf bytes) (pastAfter bytes es) c buffer
   demand-2-buffer = bus.buffer-is bytes es
 
   module _ (s : Sample) (taken : offered (after bytes es) s .verdict ≡ Accepted) (p : ℕ) (inside : p < protections) where

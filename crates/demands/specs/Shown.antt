@@ -35,7 +35,8 @@ use Rattle.bleed.specs.Walk.WalkLaws.{walk-none}
 use Rattle.bleed.specs.Walk.Word.{wordOf}
 use Rattle.bleed.specs.Walk.History.{resting, startCell}
 use Rattle.bleed.specs.Walk.Balance.{bledWord}
-use Rattle.pack_refusals.specs.Samples.{sampleVerdict, commandVerdict, trimmed, sample-none}
+use Rattle.pack_refusals.specs.Samples.{sampleVerdict, commandVerdict, trimmed}
+use Rattle.pack_refusals.specs.SampleLaws.{sample-none}
 use Rattle.pack_state.specs.declared.Pack.{Pack}
 use Rattle.pack_state.specs.Past.{past}
 use Rattle.pack_state.specs.State.{wishAt, wishesOf, bledsAfter, bledAfter, anySample}
