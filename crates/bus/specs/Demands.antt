@@ -21,19 +21,19 @@ use Rattle.bus.specs.declared.answer.Replied.the-variants.{Sent, Refused
 use Rattle.bus_table.specs.Table.{rowOf}
 use Rattle.bus_words.specs.Words.{sentWord, saidOf}
 use Rattle.bus_words.specs.Demands.{word-is}
-use Rattle.bus.specs.Replies.{replyRefusals, repliedFor, frameOf, bytesOf, bytesFor, repliedAfter, bufferAfter, repliedTo, bytesAfter}
+use Rattle.bus.specs.Replies.{replyRefusals, repliedFor, frameOf, bytesOf, bytesFor, repliedAfter, bufferAfter, answerTo, bufferOf}
 
 -- ---- after any load and calls
 
 module _ (bytes : List ℕ) (es : List Event) where
   -- The answer to every command, for a buffer of any length,
-  pub answer-is : (c room : ℕ) → repliedTo (after bytes es) c room ≡ repliedAfter (pageOf bytes) (pastAfter bytes es) c room
-  unfolding stateAfter stateOf repliedTo repliedAfter
-  answer-is c room = ap (λ (p : Pack). repliedTo p c room) (after-is bytes es)
+  pub answer-is : (c room : ℕ) → answerTo (after bytes es) c room ≡ repliedAfter (pageOf bytes) (pastAfter bytes es) c room
+  unfolding stateAfter stateOf answerTo repliedAfter
+  answer-is c room = ap (λ (p : Pack). answerTo p c room) (after-is bytes es)
 
   -- and what then stands in the buffer.
-  pub buffer-is : (c : ℕ) (b : List ℕ) → bytesAfter (after bytes es) c b ≡ bufferAfter (pageOf bytes) (pastAfter bytes es) c b
-  unfolding bytesAfter bufferAfter
+  pub buffer-is : (c : ℕ) (b : List ℕ) → bufferOf (after bytes es) c b ≡ bufferAfter (pageOf bytes) (pastAfter bytes es) c b
+  unfolding bufferOf bufferAfter
   buffer-is c b =
       ap₂ (λ (r : Replied) (w : ℕ). bytesFor r (frameOf c w) b) (answer-is c (length b)) (word-is bytes es c)
 
@@ -75,12 +75,12 @@ module _ (n : ℕ) (sampled : Bool) (c room : ℕ) where
       (λ e. x .0 (t .0 e), λ f. t .1 (x .1 f))
 
 -- A refusal leaves the buffer as it was, whatever its length;
-pub refused-untouched : (p : Pack) (c k : ℕ) (b : List ℕ) → repliedTo p c (length b) ≡ Refused k → bytesAfter p c b ≡ b
-unfolding bytesAfter
+pub refused-untouched : (p : Pack) (c k : ℕ) (b : List ℕ) → answerTo p c (length b) ≡ Refused k → bufferOf p c b ≡ b
+unfolding bufferOf
 refused-untouched p c k b e = rw e
 
 -- what is sent are the three bytes of the command's word, and nothing else.
-pub sent-bytes : (p : Pack) (c : ℕ) (b : List ℕ) → repliedTo p c (length b) ≡ Sent
-    → bytesAfter p c b ≡ bytesOf (frameOf c (sentWord (saidOf p) (rowOf c)))
-unfolding bytesAfter
+pub sent-bytes : (p : Pack) (c : ℕ) (b : List ℕ) → answerTo p c (length b) ≡ Sent
+    → bufferOf p c b ≡ bytesOf (frameOf c (sentWord (saidOf p) (rowOf c)))
+unfolding bufferOf
 sent-bytes p c b e = rw e

@@ -1,6 +1,6 @@
 -- Replies: document 01's refusals 12 to 15, the three bytes of a word, and what stands in the lent buffer afterwards.
 -- Assumes nothing.
-use mathlib.Core.Path.{_≡_, refl}
+use mathlib.Core.Path.{_≡_, refl, ap, _∙_}
 use mathlib.Core.Bool.{Bool, true, false, not, _&&_, true≢false}
 use mathlib.Core.List.{List, [], _∷_}
 use Prim.Native.Nat.{ℕ, _/_, _%_}
@@ -10,7 +10,7 @@ use lib.Dec.{eqb, ltb}
 use lib.ListN.{length, set}
 use Rattle.laws.specs.Tests.{by-test}
 use Rattle.crc.specs.CheckByte.{checkByte}
-use Rattle.refusals.specs.Refusals.{rule, Refusal, refusal, Answer, answer, first}
+use Rattle.refusals.specs.Refusals.{rule, Refusal, refusal, Answer, answer, first, given, first-map}
 use Rattle.page_settings.specs.declared.Settings.{Settings}
 use Rattle.pack_state.specs.declared.Pack.{Pack}
 use Rattle.pack_state.specs.Past.{Past}
@@ -26,9 +26,9 @@ use Rattle.bus_words.specs.Words.{sentWord, wordAfter, saidOf}
 -- ---- refusals
 
 -- The number and the word of an answer: a refused reply names word 0, and a reply that is sent has number 0.
-abbrev pub answerOf : Replied → Answer
-answerOf Sent = answer 0 0
-answerOf (Refused number) = answer number 0
+abbrev pub answerOfReply : Replied → Answer
+answerOfReply Sent = answer 0 0
+answerOfReply (Refused number) = answer number 0
 
 -- "Command not in the table."
 unfoldable pub notInTable : Sends → Bool
@@ -91,13 +91,23 @@ bufferAfter page p c b = bytesFor (repliedAfter page p c (length b)) (frameOf c 
 
 -- ---- from the state
 
-unfoldable pub repliedTo : Pack → ℕ → ℕ → Replied
-repliedTo p c room = repliedFor (p .rules .n) (p .sampled) c room
+abbrev pub refusalsOf : Pack → ℕ → ℕ → List Refusal
+refusalsOf p c room = replyRefusals (p .rules .n) (p .sampled) c room
 
-unfoldable pub bytesAfter : Pack → ℕ → List ℕ → List ℕ
-bytesAfter p c b = bytesFor (repliedTo p c (length b)) (frameOf c (sentWord (saidOf p) (rowOf c))) b
+unfoldable pub answerTo : Pack → ℕ → ℕ → Replied
+answerTo p c room = repliedFor (p .rules .n) (p .sampled) c room
+
+unfoldable pub bufferOf : Pack → ℕ → List ℕ → List ℕ
+bufferOf p c b = bytesFor (answerTo p c (length b)) (frameOf c (sentWord (saidOf p) (rowOf c))) b
 
 -- ---- what the code needs of them
+
+-- The number and word of an answer are the table's.
+pub answer-given : (p : Pack) (c room : ℕ) (r : Replied) → r ≡ answerTo p c room
+    → (r ≡ answerTo p c room) × (answerOfReply r ≡ given (refusalsOf p c room))
+unfolding answerTo repliedFor replyRefusals
+answer-given p c room r e =
+    (e, ap answerOfReply e ∙ first-map answerOfReply (λ (number word : ℕ). Refused number) Sent (refusalsOf p c room))
 
 -- Three bytes put into a buffer of three.
 pub three-put : (b : List ℕ) (x y z : ℕ) → length b ≡ 3 → set (set (set b 0 x) 1 y) 2 z ≡ x ∷ y ∷ z ∷ []

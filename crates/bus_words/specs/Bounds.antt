@@ -1,7 +1,7 @@
 -- The words fit 16 bits: a pack keeps accepted samples only, of ten cells of 6000 mV at most, and so it is with n × word 7.
 -- Assumes nothing.
 use mathlib.Core.Path.{_≡_, sym, ap}
-use mathlib.Core.Bool.{true, _&&_}
+use mathlib.Core.Bool.{true}
 use mathlib.Core.List.{List, [], _∷_}
 use mathlib.Core.Logic.{⊎-elim}
 use Prim.Native.Nat.{ℕ, zero, suc, _*_, _≤_, _<_}
@@ -17,14 +17,14 @@ use Rattle.units.specs.declared.MilliVolts.{MilliVolts}
 use Rattle.sample.specs.declared.Sample.{Sample}
 use Rattle.units.specs.Cells.{lookedAt, looked-most}
 use Rattle.sample.specs.Cells.{noVolts}
-use Rattle.pack_refusals.specs.Samples.{cellFits, cellsFit, keptCell, trimmed, sampleRefusals, sampleVerdict, commandVerdict}
+use Rattle.pack_refusals.specs.Samples.{cellFits, cellsFit, exactCount, keptCell, trimmed, sampleRefusals, sampleVerdict, commandVerdict}
 use Rattle.page_settings.specs.Good.{Good}
 use Rattle.pack_state.specs.declared.Pack.{Pack}
 use Rattle.pack.specs.Events.{Event, offer, command, accepts, withEvent, pastOf}
 use Rattle.pack_state.specs.State.{latestOf, stateOf}
 use Rattle.pack.specs.Kept.{Kept, pageOf, stateAfter}
 use Rattle.pack.specs.Calls.{page-good}
-use Rattle.bus_words.specs.Words.{sumTo, sumOf, Bounded}
+use Rattle.bus_words.specs.Words.{sumTo, sumWord, Bounded}
 
 -- Cells that fit are 6000 mV at most.
 fits-most : (cells : List MilliVolts) (k : ℕ) → cellsFit cells k ≡ true → (i : ℕ) → i < k → getD cells i noVolts .0 ≤ 6000
@@ -72,9 +72,9 @@ unfolding sampleVerdict sampleRefusals
 accepted-fits n s e =
     by-test (cellsFit (s .cells) (lookedAt (s .count)))
     (λ t. t)
-    (λ t. by-test (ltb 0 n && eqb (s .count) n) (λ u. clash e (rw (u, t))) (λ u. clash e (rw u)))
+    (λ t. by-test (exactCount n (s .count)) (λ u. clash e (rw (u, t))) (λ u. clash e (rw u)))
 
-trimmed-most : (n : ℕ) (s : Sample) → accepts (sampleVerdict n s) ≡ true → sumOf (trimmed s) ≤ 60000
+trimmed-most : (n : ℕ) (s : Sample) → accepts (sampleVerdict n s) ≡ true → sumWord (trimmed s) ≤ 60000
 unfolding trimmed
 trimmed-most n s e =
     let few = looked-most (s .count) in
@@ -83,13 +83,13 @@ trimmed-most n s e =
     omega arith
 
 -- The sum of the latest sample's cells, after any events.
-pub latest-most : (n : ℕ) (es : List Event) → sumOf (latestOf (pastOf n es .history)) ≤ 60000
+pub latest-most : (n : ℕ) (es : List Event) → sumWord (latestOf (pastOf n es .history)) ≤ 60000
 unfolding pastOf withEvent sumTo
 latest-most n [] = omega arith
 latest-most n (offer s ∷ es) =
     by-test (accepts (sampleVerdict n s)) (λ t. rw t (trimmed-most n s t)) (λ t. rw t (latest-most n es))
 latest-most n (command c ∷ es) =
-    by-test (accepts (commandVerdict n c)) (λ t. rw t (latest-most n es)) (λ t. rw t (latest-most n es))
+    by-test (accepts (commandVerdict c)) (λ t. rw t (latest-most n es)) (λ t. rw t (latest-most n es))
 
 -- n × word 7.
 pub voltage-most : (bytes : List ℕ) → pageOf bytes .rules .n * pageOf bytes .rules .voltage .0 ≤ 60000

@@ -1,4 +1,5 @@
--- Computed cases: each bit of the status by itself, the modes, and the words of document 01's replay, before and after a switch command.
+-- Computed cases: each bit of the status by itself, the words of document 01's replay, before and after a switch command, and ten unlike
+-- cells.
 -- Assumes nothing.
 use mathlib.Core.Path.{_≡_, refl}
 use mathlib.Core.Bool.{Bool, true, false}
@@ -49,13 +50,6 @@ status-bits = refl
 pub status-others : map (λ p. statusWord (eqb p) none true) (1 ∷ 2 ∷ 3 ∷ 4 ∷ []) ≡ replicate 4 0x0080
 unfolding statusWord heatRaised
 status-others = refl
-
--- ---- the mode, with several raised: the order 4, 3, 2, 0, 7, 6, 5, and 1 has none
-
-pub mode-order : map (λ w. firstMode (hasBit w) modeOrder 0x03) (0xFF ∷ 0xEF ∷ 0xE7 ∷ 0xE3 ∷ 0xE2 ∷ 0x62 ∷ 0x22 ∷ 0x02 ∷ [])
-    ≡ (0x14 ∷ 0x13 ∷ 0x12 ∷ 0x15 ∷ 0x16 ∷ 0x11 ∷ 0x10 ∷ 0x03 ∷ [])
-unfolding firstMode modeOrder hasBit rowAt rows
-mode-order = refl
 
 -- ---- words of a page and events, the latest event first
 
@@ -189,6 +183,19 @@ unfolding wordAfter rowOf table sentWord packWord statusWord heatRaised withSwit
     sampleVerdict sampleRefusals within cellsFit trimmed eachTo keptCell commandVerdict commandRefusals modeAfter firstMode modeOrder
     raisedWord blocked bitsOf anyOf raised rowAt rows measure extremesOf bestOf
 by-themselves = refl
+
+-- ---- ten unlike cells: 0x30 to 0x39 send cells 1 to 10, and a command that is not in the table sends 0
+
+abbrev unlike : List ℕ
+unlike = 4001 ∷ 4002 ∷ 4003 ∷ 4004 ∷ 4005 ∷ 4006 ∷ 4007 ∷ 4008 ∷ 4009 ∷ 4010 ∷ []
+
+pub ten-unlike
+    : words (page-with 10 4200 (limited (pos 6000) (pos 5999) 2 2 0 ∷ never)) (offer (sampled 10 unlike (pos 0) 2980 2980) ∷ [])
+    (0x30 ∷ 0x31 ∷ 0x32 ∷ 0x33 ∷ 0x34 ∷ 0x35 ∷ 0x36 ∷ 0x37 ∷ 0x38 ∷ 0x39 ∷ 0x09 ∷ 0x3A ∷ 0x47 ∷ [])
+    ≡ (4001 ∷ 4002 ∷ 4003 ∷ 4004 ∷ 4005 ∷ 4006 ∷ 4007 ∷ 4008 ∷ 4009 ∷ 4010 ∷ 40055 ∷ 0 ∷ 0 ∷ [])
+unfolding wordAfter rowOf table sentWord packWord sumTo cellWord pastOf withEvent sampleVerdict sampleRefusals within cellsFit trimmed
+    eachTo keptCell
+ten-unlike = refl
 
 -- ---- ten cells of 6000 mV: the sum and n × word 7 are 60000, and entries past n are no cells
 

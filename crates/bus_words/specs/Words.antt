@@ -56,8 +56,8 @@ sumTo cells zero = 0
 sumTo cells (suc k) = sumTo cells k + getD cells k noVolts .0
 
 -- "The sum of the cells."
-abbrev pub sumOf : Sample → ℕ
-sumOf s = sumTo (s .cells) (lookedAt (s .count))
+abbrev pub sumWord : Sample → ℕ
+sumWord s = sumTo (s .cells) (lookedAt (s .count))
 
 -- Cell k; a number that no cell has reads as 0.
 unfoldable pub cellWord : List MilliVolts → ℕ → ℕ
@@ -72,7 +72,7 @@ pub record Bit : Type 0 where
 abbrev bit : ℕ → Bool → Bit
 bit v s = record { value = v; set = s }
 
-abbrev pub withBits : List Bit → ℕ
+abbrev withBits : List Bit → ℕ
 withBits [] = 0
 withBits (b ∷ bs) = cond (b .set) (bitOr (withBits bs) (b .value)) (withBits bs)
 
@@ -112,7 +112,7 @@ module _ (x : Said) where
   unfoldable pub packWord : PackWord → ℕ
   packWord Temperature1 = x .latest .t1 .0
   packWord Temperature2 = x .latest .t2 .0
-  packWord Sum = sumOf (x .latest)
+  packWord Sum = sumWord (x .latest)
   packWord Current = wordOf (x .latest .current)
   packWord ChargingCurrent = unlessBlocked (wordOf (x .current))
   packWord ChargingVoltage = unlessBlocked (x .n * x .voltage .0)
@@ -170,7 +170,7 @@ saidOf p =
 
 -- What the words of a state are bounded by: ten cells of 6000 mV.
 pub record Bounded (p : Pack) : Type 0 where
-  pub sum : sumOf (p .latest) ≤ 60000
+  pub sum : sumWord (p .latest) ≤ 60000
   pub voltage : p .rules .n * p .rules .voltage .0 ≤ 60000
 
 -- ---- what the code needs of them

@@ -6,7 +6,7 @@ ghost use Rattle.laws.specs.Bits.{hasBit};
 ghost use Rattle.units.specs.Cells.{lookedAt};
 ghost use Rattle.guard_raised.specs.Words.{blocksAny};
 ghost use Rattle.pack.specs.Kept.{Kept};
-ghost use Rattle.bus_words.specs.Words.{sumTo, cellWord, heatRaised, packWord, sentWord, saidOf, statusOf, raisedAndSwitches, Bounded};
+ghost use Rattle.bus_words.specs.Words.{sumTo, sumWord, cellWord, heatRaised, packWord, sentWord, saidOf, statusOf, raisedAndSwitches, Bounded};
 use bleed_wants::is_charging;
 use bus_table::PackWord;
 use bus_table::Sends;
@@ -25,7 +25,7 @@ use units::looked_at;
 use units::word_of;
 
 // The sum of the first `count` cells.
-fn sum_of(cells: [MilliVolts; 10], count: u8) -> u32
+fn sum_to(cells: [MilliVolts; 10], count: u8) -> u32
     ensures { λ r. ⌜ r ≡ sumTo cells (lookedAt count) ⌝ }
 {
     let n = looked_at(count);
@@ -41,11 +41,11 @@ fn sum_of(cells: [MilliVolts; 10], count: u8) -> u32
 
 // The sum of the cells of an accepted sample.
 fn sum_word(s: Sample) -> u16
-    requires { ⌜ sumTo (s .cells) (lookedAt (s .count)) ≤ 60000 ⌝ }
-    ensures { λ r. ⌜ r ≡ sumTo (s .cells) (lookedAt (s .count)) ⌝ }
+    requires { ⌜ sumWord s ≤ 60000 ⌝ }
+    ensures { λ r. ⌜ r ≡ sumWord s ⌝ }
 {
     let cells = s.cells;
-    let sum = sum_of(cells, s.count);
+    let sum = sum_to(cells, s.count);
     sum as u16
 }
 

@@ -3,7 +3,7 @@
 use mathlib.Core.Path.{_≡_}
 use lib.ListN.{length}
 use Rattle.sample.specs.declared.Sample.{Sample}
-use Rattle.pack_refusals.specs.Samples.{Agree, agree-verdict, agree-trimmed}
+use Rattle.pack_refusals.specs.Agree.{Agree, agree-verdict, agree-trimmed}
 use Rattle.pack_state.specs.declared.Pack.{Pack}
 use Rattle.pack.specs.Answers.{offered}
 

@@ -170,12 +170,12 @@ commandCases =
     ∷ (1 ∷ 0 ∷ 0 ∷ 0 ∷ 3 ∷ [])
     ∷ [])
 
--- A pack without a page refuses every sample with 9 and every command with 16.
+-- A pack without a page refuses every sample with 9; a command of 0 to 3 is taken, and no switch goes on.
 abbrev pagelessCases : Case
 pagelessCases =
     case
-    (numbers (freshPack noSettings) (charged [] ∷ charged (4000 ∷ 4000 ∷ []) ∷ command 0 ∷ command 4 ∷ []))
-    (each (9 ∷ 9 ∷ 16 ∷ 16 ∷ []))
+    (answers (freshPack noSettings) (charged [] ∷ command 3 ∷ charged (4000 ∷ 4000 ∷ []) ∷ command 4 ∷ []))
+    ((9 ∷ []) ∷ (0 ∷ 0 ∷ 0 ∷ 0 ∷ 0 ∷ []) ∷ (9 ∷ []) ∷ (16 ∷ []) ∷ [])
 
 -- The modes, in the order 4, 3, 2, 0, 7, 6, 5: under voltage has none; short beats over discharge; heat gives 0x10, then 0x11 and 0x16.
 abbrev modeCases : Case

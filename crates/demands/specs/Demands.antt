@@ -55,13 +55,13 @@ unfolding sampleVerdict sampleRefusals
 sample-refused-exactly n s k w = refuse-exactly Refused Accepted refused-not refused-one 0 (sampleRefusals n s) refl k w
 
 -- The same for a switch command.
-pub command-accepted-exactly : (n c : ℕ) → (commandVerdict n c ≡ Accepted) ↔ NoFault (commandRefusals n c)
+pub command-accepted-exactly : (c : ℕ) → (commandVerdict c ≡ Accepted) ↔ NoFault (commandRefusals c)
 unfolding commandVerdict commandRefusals
-command-accepted-exactly n c = none-exactly Refused Accepted refused-not refused-one 0 (commandRefusals n c) refl
+command-accepted-exactly c = none-exactly Refused Accepted refused-not refused-one 0 (commandRefusals c) refl
 
-pub command-refused-exactly : (n c k w : ℕ) → (commandVerdict n c ≡ Refused k w) ↔ Lowest (commandRefusals n c) k w
+pub command-refused-exactly : (c k w : ℕ) → (commandVerdict c ≡ Refused k w) ↔ Lowest (commandRefusals c) k w
 unfolding commandVerdict commandRefusals
-command-refused-exactly n c k w = refuse-exactly Refused Accepted refused-not refused-one 0 (commandRefusals n c) refl k w
+command-refused-exactly c k w = refuse-exactly Refused Accepted refused-not refused-one 0 (commandRefusals c) refl k w
 
 -- A refused sample leaves the state as it was, every field; so does a refused command.
 pub refused-sample-untouched : (p : Pack) (s : Sample) (k w : ℕ) → offered p s .verdict ≡ Refused k w → offered p s .pack ≡ p

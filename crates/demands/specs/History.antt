@@ -45,7 +45,7 @@ module _ (page : List ℕ) where
   -- What document 01 says of a line behind these events.
   abbrev pub saysAs : Kind → List Event → Entry → Told
   saysAs Offer es e = saidOf (sampleVerdict (pageOf page .rules .n) (e .sample)) (offer (e .sample) ∷ es)
-  saysAs Command es e = saidOf (commandVerdict (pageOf page .rules .n) (e .command)) (command (e .command) ∷ es)
+  saysAs Command es e = saidOf (commandVerdict (e .command)) (command (e .command) ∷ es)
   saysAs Malformed es e = Refused 17
 
   abbrev pub says : List Event → List ℕ → Told
@@ -73,8 +73,7 @@ module _ (page : List ℕ) where
     refl,
   )
   turn-is Command es e = (
-    told-is (commandVerdict (after page es .rules .n) (e .command)) (command (e .command) ∷ es)
-        ∙ ap (λ (n : ℕ). saidOf (commandVerdict n (e .command)) (command (e .command) ∷ es)) (cells-are es),
+    told-is (commandVerdict (e .command)) (command (e .command) ∷ es),
     refl,
   )
   turn-is Malformed es e = (refl, refl)

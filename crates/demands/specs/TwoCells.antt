@@ -122,7 +122,7 @@ history-counts n (offer s ∷ es) =
     (λ t. rw t (sample-exact n s (accepts-is (sampleVerdict n s) t), history-counts n es))
     (λ t. rw t (history-counts n es))
 history-counts n (command c ∷ es) =
-    by-test (accepts (commandVerdict n c)) (λ t. rw t (history-counts n es)) (λ t. rw t (history-counts n es))
+    by-test (accepts (commandVerdict c)) (λ t. rw t (history-counts n es)) (λ t. rw t (history-counts n es))
 
 wishes-alone : (page : Settings) (k : ℕ) → 1 ≤ k → k ≤ 2 → (h : List Sample) → Counts 2 h → Alone 2 k (wishesOf page h)
 unfolding wishesOf

@@ -34,5 +34,5 @@ withCommand p c =
 
 unfoldable pub commanded : Pack → ℕ → Answered
 commanded p c =
-    let v = commandVerdict (p .rules .n) c in
+    let v = commandVerdict c in
     answered v (cond (accepts v) (withCommand p c) p)

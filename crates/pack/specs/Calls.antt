@@ -7,11 +7,15 @@ use Prim.Native.Nat.{ℕ, zero, suc, _%_, _<_}
 use native.Mathlib.Omega.{arith}
 use native.Mathlib.Nat.{zero-lt-suc, mod-eq-of-lt}
 use Rattle.laws.specs.Tests.{by-test, clash}
-use Rattle.page_judge.specs.Page.{judged}
+use Rattle.page_judge.specs.Page.{judged, refusals}
+use Rattle.page_judge.specs.Walk.{judged-answer}
+use Rattle.refusals.specs.Answers.{answerOf}
+use Rattle.refusals.specs.Refusals.{given}
 use Rattle.refusals.specs.declared.Verdict.{Verdict}
 use Rattle.refusals.specs.declared.Verdict.the-variants.{Accepted, Refused}
 use Rattle.sample.specs.declared.Sample.{Sample}
-use Rattle.pack_refusals.specs.Samples.{sampleVerdict, commandVerdict, trimmed, sample-none, command-most}
+use Rattle.pack_refusals.specs.Samples.{sampleRefusals, sampleVerdict, commandRefusals, commandVerdict, trimmed}
+use Rattle.pack_refusals.specs.SampleLaws.{sample-none, command-most}
 use Rattle.page_settings.specs.declared.Loaded.{Loaded}
 use Rattle.page_settings.specs.Settings.{settingsOf, noSettings, loadedOf, loadedWith}
 use Rattle.page_settings.specs.Good.{Good, accepted-good}
@@ -60,10 +64,10 @@ offered-is bytes es s =
 
 -- Commanding the switches.
 pub commanded-is : (bytes : List ℕ) (es : List Event) (c : ℕ)
-    → commanded (stateAfter bytes es) c ≡ answered (commandVerdict (pageOf bytes .rules .n) c) (stateAfter bytes (command c ∷ es))
+    → commanded (stateAfter bytes es) c ≡ answered (commandVerdict c) (stateAfter bytes (command c ∷ es))
 unfolding commanded withCommand stateAfter stateOf pastOf withEvent
 commanded-is bytes es c =
-    by-test (accepts (commandVerdict (pageOf bytes .rules .n) c)) (λ t. rw t) (λ t. rw t)
+    by-test (accepts (commandVerdict c)) (λ t. rw t) (λ t. rw t)
 
 -- ---- what each call hands on
 
@@ -87,38 +91,46 @@ kept-command p c k =
       is = ap (λ (q : Pack). commanded q c .pack) (k .is) ∙ ap (λ (a : Answered). a .pack) (commanded-is (k .bytes) (k .events) c);
     }
 
--- ---- the ends of the calls, in the code's own terms
+-- ---- the ends of the calls, in the code's own terms: the answer, its number and word, and what it hands on
+
+verdict-is : (v : Verdict) (bytes : List ℕ) → loadedWith v bytes .verdict ≡ v
+verdict-is Accepted bytes = refl
+verdict-is (Refused k w) bytes = refl
 
 pub load-is : (bytes : List ℕ) (l : Loaded) (q : Pack) → l ≡ loadedOf bytes → q ≡ freshPack (l .settings)
-    → (answered (l .verdict) q ≡ afterLoad bytes) × Kept q
-unfolding afterLoad
+    → (answered (l .verdict) q ≡ afterLoad bytes) × ((answerOf (l .verdict) ≡ given (refusals bytes)) × Kept q)
+unfolding afterLoad loadedOf
 load-is bytes l q el eq =
     let is : q ≡ freshPack (pageOf bytes) = eq ∙ ap (λ (x : Loaded). freshPack (x .settings)) el in
-    (rw (is, el), rw is (kept-load bytes))
+    let judge : l .verdict ≡ judged bytes = ap (λ (x : Loaded). x .verdict) el ∙ verdict-is (judged bytes) bytes in
+    (rw (is, el), (judged-answer bytes (l .verdict) judge .1, rw is (kept-load bytes)))
 
 module _ (p : Pack) (k : Kept p) where
   -- An accepted sample: `t` is what is kept of it.
-  pub offer-accepted : (s t : Sample) (v : Verdict) (q : Pack) → v ≡ sampleVerdict (p .rules .n) s → v ≡ Accepted → t ≡ trimmed s
-      → q ≡ acceptedPack p t → (answered v q ≡ offered p s) × Kept q
+  pub offer-accepted : (s t : Sample) (v : Verdict) (q : Pack)
+      → (v ≡ sampleVerdict (p .rules .n) s) × (answerOf v ≡ given (sampleRefusals (p .rules .n) s)) → v ≡ Accepted → t ≡ trimmed s
+      → q ≡ acceptedPack p t
+      → (answered v q ≡ offered p s) × ((answerOf v ≡ given (sampleRefusals (p .rules .n) s)) × Kept q)
   unfolding offered
   offer-accepted s t v q ev ea et eq =
-      let is : answered v q ≡ offered p s = rw (← ev, ea, eq, et) in
-      (is, rw (ap (λ (a : Answered). a .pack) is) (kept-offer p s k))
+      let is : answered v q ≡ offered p s = rw (← ev .0, ea, eq, et) in
+      (is, (ev .1, rw (ap (λ (a : Answered). a .pack) is) (kept-offer p s k)))
 
-  pub offer-refused : (s : Sample) (v : Verdict) (number word : ℕ) → v ≡ sampleVerdict (p .rules .n) s → v ≡ Refused number word
-      → (answered v p ≡ offered p s) × Kept p
+  pub offer-refused : (s : Sample) (v : Verdict) (number word : ℕ)
+      → (v ≡ sampleVerdict (p .rules .n) s) × (answerOf v ≡ given (sampleRefusals (p .rules .n) s)) → v ≡ Refused number word
+      → (answered v p ≡ offered p s) × ((answerOf v ≡ given (sampleRefusals (p .rules .n) s)) × Kept p)
   unfolding offered
-  offer-refused s v number word ev er = (rw (← ev, er), k)
+  offer-refused s v number word ev er = (rw (← ev .0, er), (ev .1, k))
 
-  pub command-accepted : (c : ℕ) (v : Verdict) → v ≡ commandVerdict (p .rules .n) c → v ≡ Accepted
-      → (answered v (withCommand p (c % 256)) ≡ commanded p c) × Kept (withCommand p (c % 256))
+  pub command-accepted : (c : ℕ) (v : Verdict) → (v ≡ commandVerdict c) × (answerOf v ≡ given (commandRefusals c)) → v ≡ Accepted
+      → (answered v (withCommand p (c % 256)) ≡ commanded p c) × ((answerOf v ≡ given (commandRefusals c)) × Kept (withCommand p (c % 256)))
   unfolding commanded
   command-accepted c v ev ea =
-      let small : c % 256 ≡ c = mod-eq-of-lt (let h = command-most (p .rules .n) c (sym ev ∙ ea) in omega arith) in
-      let is : answered v (withCommand p (c % 256)) ≡ commanded p c = rw (← ev, ea, small) in
-      (is, rw (ap (λ (a : Answered). a .pack) is) (kept-command p c k))
+      let small : c % 256 ≡ c = mod-eq-of-lt (let h = command-most c (sym (ev .0) ∙ ea) in omega arith) in
+      let is : answered v (withCommand p (c % 256)) ≡ commanded p c = rw (← ev .0, ea, small) in
+      (is, (ev .1, rw (ap (λ (a : Answered). a .pack) is) (kept-command p c k)))
 
-  pub command-refused : (c : ℕ) (v : Verdict) (number word : ℕ) → v ≡ commandVerdict (p .rules .n) c → v ≡ Refused number word
-      → (answered v p ≡ commanded p c) × Kept p
+  pub command-refused : (c : ℕ) (v : Verdict) (number word : ℕ) → (v ≡ commandVerdict c) × (answerOf v ≡ given (commandRefusals c))
+      → v ≡ Refused number word → (answered v p ≡ commanded p c) × ((answerOf v ≡ given (commandRefusals c)) × Kept p)
   unfolding commanded
-  command-refused c v number word ev er = (rw (← ev, er), k)
+  command-refused c v number word ev er = (rw (← ev .0, er), (ev .1, k))

@@ -21,7 +21,7 @@ accepts (Refused number word) = false
 -- One event more, in a pack of n cells. A refused one leaves no trace.
 unfoldable pub withEvent : ℕ → Event → Past → Past
 withEvent n (offer s) p = cond (accepts (sampleVerdict n s)) (past (trimmed s ∷ p .history) (p .standing)) p
-withEvent n (command c) p = cond (accepts (commandVerdict n c)) (past (p .history) c) p
+withEvent n (command c) p = cond (accepts (commandVerdict c)) (past (p .history) c) p
 
 unfoldable pub pastOf : ℕ → List Event → Past
 pastOf n [] = past [] 0

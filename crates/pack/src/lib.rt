@@ -1,5 +1,9 @@
 // The pack: loading a page, offering a sample, commanding the switches.
 ghost use mathlib.Core.Path.{_≡_};
+ghost use Rattle.refusals.specs.Answers.{answerOf};
+ghost use Rattle.refusals.specs.Refusals.{given};
+ghost use Rattle.page_judge.specs.Page.{refusals};
+ghost use Rattle.pack_refusals.specs.Samples.{sampleRefusals, commandRefusals};
 ghost use Rattle.pack_state.specs.State.{freshBalance, freshPack};
 ghost use Rattle.pack.specs.Answers.{offered, commanded};
 ghost use Rattle.pack.specs.Kept.{Kept, afterLoad};
@@ -56,6 +60,7 @@ fn fresh_pack(s: Settings) -> Pack
 // Loads a page: its verdict, and a pack with no sample yet. A refused page gives the pack without a page.
 pub fn load(bytes: &[u8]) -> Answered
     ensures { λ r. ⌜ r ≡ afterLoad (now (bytes .entry)) ⌝ }
+    ensures { λ r. ⌜ answerOf (r .verdict) ≡ given (refusals (now (bytes .entry))) ⌝ }
     ensures { λ r. ⌜ Kept (r .pack) ⌝ }
 {
     let loaded = page_settings::load(bytes);
@@ -72,6 +77,7 @@ pub fn load(bytes: &[u8]) -> Answered
 pub fn offer(p: Pack, s: Sample) -> Answered
     requires { ⌜ Kept p ⌝ }
     ensures { λ r. ⌜ r ≡ offered p s ⌝ }
+    ensures { λ r. ⌜ answerOf (r .verdict) ≡ given (sampleRefusals (p .rules .n) s) ⌝ }
     ensures { λ r. ⌜ Kept (r .pack) ⌝ }
 {
     let rules = p.rules;
@@ -96,10 +102,10 @@ pub fn offer(p: Pack, s: Sample) -> Answered
 pub fn command(p: Pack, c: u16) -> Answered
     requires { ⌜ Kept p ⌝ }
     ensures { λ r. ⌜ r ≡ commanded p c ⌝ }
+    ensures { λ r. ⌜ answerOf (r .verdict) ≡ given (commandRefusals c) ⌝ }
     ensures { λ r. ⌜ Kept (r .pack) ⌝ }
 {
-    let rules = p.rules;
-    let verdict = command_verdict(rules.n, c);
+    let verdict = command_verdict(c);
     match verdict {
         Verdict::Accepted => {
             let mut next = p;

@@ -1,8 +1,10 @@
 // Offered samples and switch commands: document 01's refusals 9, 10, 11 and 16, and what is kept of an accepted sample.
 ghost use mathlib.Core.Path.{_≡_};
 ghost use mathlib.Core.Bool.{_&&_};
+ghost use Rattle.refusals.specs.Answers.{answerOf};
+ghost use Rattle.refusals.specs.Refusals.{given};
 ghost use Rattle.units.specs.Cells.{lookedAt};
-ghost use Rattle.pack_refusals.specs.Samples.{cellFits, cellsFit, temperatureFits, temperaturesVerdict, sampleVerdict, commandVerdict, keptCell, trimmed};
+ghost use Rattle.pack_refusals.specs.Samples.{cellFits, cellsFit, temperatureFits, temperaturesVerdict, sampleRefusals, sampleVerdict, commandRefusals, commandVerdict, keptCell, trimmed};
 use refusals::Verdict;
 use refusals::refused;
 use sample::Sample;
@@ -55,9 +57,9 @@ fn temperatures_verdict(t1: DeciKelvin, t2: DeciKelvin) -> Verdict
     refused(11)
 }
 
-// What document 01 answers to a sample that is offered to a pack of n cells.
+// What document 01 answers to a sample that is offered to a pack of n cells; n is 0 in a pack without a page.
 pub fn sample_verdict(n: u8, s: Sample) -> Verdict
-    ensures { λ r. ⌜ r ≡ sampleVerdict n s ⌝ }
+    ensures { λ r. ⌜ (r ≡ sampleVerdict n s) × (answerOf r ≡ given (sampleRefusals n s)) ⌝ }
 {
     if n == 0 {
         return refused(9);
@@ -74,12 +76,9 @@ pub fn sample_verdict(n: u8, s: Sample) -> Verdict
 }
 
 // What it answers to a switch command.
-pub fn command_verdict(n: u8, c: u16) -> Verdict
-    ensures { λ r. ⌜ r ≡ commandVerdict n c ⌝ }
+pub fn command_verdict(c: u16) -> Verdict
+    ensures { λ r. ⌜ (r ≡ commandVerdict c) × (answerOf r ≡ given (commandRefusals c)) ⌝ }
 {
-    if n == 0 {
-        return refused(16);
-    }
     if c <= 3 {
         return Verdict::Accepted;
     }

@@ -1,4 +1,4 @@
--- Two answers that a contract of `shown` allows are equal. Assumes nothing.
+-- Two answers that a contract of `pack_shown` allows are equal. Assumes nothing.
 use mathlib.Core.Path.{sym, _∙_}
 use Rattle.laws.specs.Unique.{Unique}
 use Rattle.pack_shown.proofs.switches.Kinds as switches-kinds

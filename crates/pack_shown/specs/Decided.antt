@@ -6,6 +6,7 @@ use mathlib.Core.List.{List, [], _∷_}
 use Prim.Native.Nat.{ℕ, _<_}
 use lib.Dec.{lit<}
 use Rattle.laws.specs.Bits.{hasBit}
+use Rattle.units.specs.declared.ProtectionNo.{ProtectionNo}
 use Rattle.protections.specs.Table.{protections}
 use Rattle.guard_raised.specs.Words.{raisedAfter, raisedWord, raisedBits, raisedBits-is, blocksAny-is, raisedWord-has}
 use Rattle.page_settings.specs.declared.Settings.{Settings}
@@ -15,19 +16,19 @@ use Rattle.pack_state.specs.State.{balanceAfter, stateOf, anySample, latestOf}
 use Rattle.pack_shown.specs.Shown.{switchAfter, switchesWord, modeOrder, firstMode, flowMode, modeAfter, decisionAfter, decision, switchOn, switchesOf, modeOf, decisionOf}
 
 -- The order of modes has only numbers of protections.
-abbrev Numbers : List ℕ → Type 0
+abbrev Numbers : List ProtectionNo → Type 0
 Numbers [] = Unit {0}
-Numbers (i ∷ is) = (i < protections) × Numbers is
+Numbers (p ∷ ps) = (p .0 < protections) × Numbers ps
 
 order-inside : Numbers modeOrder
 unfolding modeOrder
 order-inside = (lit< tt, (lit< tt, (lit< tt, (lit< tt, (lit< tt, (lit< tt, (lit< tt, tt)))))))
 
-mode-same : (f g : ℕ → Bool) (order : List ℕ) (other : ℕ) → Numbers order → ((i : ℕ) → i < protections → f i ≡ g i)
+mode-same : (f g : ℕ → Bool) (order : List ProtectionNo) (other : ℕ) → Numbers order → ((i : ℕ) → i < protections → f i ≡ g i)
     → firstMode f order other ≡ firstMode g order other
 unfolding firstMode
 mode-same f g [] other inside same = refl
-mode-same f g (i ∷ is) other inside same = rw (same i (inside .0), mode-same f g is other (inside .1) same)
+mode-same f g (p ∷ ps) other inside same = rw (same (p .0) (inside .0), mode-same f g ps other (inside .1) same)
 
 decision-same : {t r r′ f f′ b m m′ : ℕ} → r ≡ r′ → f ≡ f′ → m ≡ m′ → decision t r f b m ≡ decision t r′ f′ b m′
 decision-same er ef em = cc

@@ -4,11 +4,12 @@
 use mathlib.Core.Bool.{Bool, true, false, not, cond, _&&_}
 use mathlib.Core.List.{List, [], _∷_}
 use mathlib.Core.Path.{_≡_}
-use Prim.Native.Nat.{ℕ, _+_, _%_, _<_}
+use Prim.Native.Nat.{ℕ, _+_, _<_}
 use native.Mathlib.Numerals.{add-one}
 use lib.ListN.{length, drop, getD}
 use lib.Seq.{drop-cons}
 use Rattle.laws.specs.Bits.{hasBit, withBitIf}
+use Rattle.units.specs.declared.ProtectionNo.{ProtectionNo}
 use Rattle.protections.specs.Table.{rowAt}
 use Rattle.protections.specs.declared.Mode.{Mode}
 use Rattle.protections.specs.declared.Mode.the-variants.{Silent, Number}
@@ -19,7 +20,7 @@ use Rattle.page_settings.specs.declared.Settings.{Settings}
 use Rattle.pack_state.specs.declared.Pack.{Pack}
 use Rattle.pack_shown.specs.declared.Decision.{Decision}
 use Rattle.pack_state.specs.Past.{Past}
-use Rattle.pack_state.specs.State.{anySample, latestOf, bledAfter}
+use Rattle.pack_state.specs.State.{anySample, latestOf, tickAfter, bledAfter}
 
 -- ---- switches
 
@@ -40,13 +41,16 @@ abbrev pub modeNumber : Mode → ℕ
 modeNumber Silent = 0
 modeNumber (Number m) = m
 
--- "The number of the first raised one in the order 4, 3, 2, 0, 7, 6, 5".
-unfoldable pub modeOrder : List ℕ
-modeOrder = 4 ∷ 3 ∷ 2 ∷ 0 ∷ 7 ∷ 6 ∷ 5 ∷ []
+abbrev no : ℕ → ProtectionNo
+no p = record { 0 = p }
 
-unfoldable pub firstMode : (ℕ → Bool) → List ℕ → ℕ → ℕ
+-- "The number of the first raised one in the order 4, 3, 2, 0, 7, 6, 5".
+unfoldable pub modeOrder : List ProtectionNo
+modeOrder = no 4 ∷ no 3 ∷ no 2 ∷ no 0 ∷ no 7 ∷ no 6 ∷ no 5 ∷ []
+
+unfoldable pub firstMode : (ℕ → Bool) → List ProtectionNo → ℕ → ℕ
 firstMode raised [] other = other
-firstMode raised (p ∷ ps) other = cond (raised p) (modeNumber (rowAt p .mode)) (firstMode raised ps other)
+firstMode raised (p ∷ ps) other = cond (raised (p .0)) (modeNumber (rowAt (p .0) .mode)) (firstMode raised ps other)
 
 -- "Else 0x03 if current is at least charge detection; else 0x02."
 abbrev pub flowMode : Bool → ℕ
@@ -67,7 +71,7 @@ decision t r f b m = record { tick = t; raised = r; fets = f; balance = b; mode 
 -- "`tick` is the count of accepted samples modulo 1000000, `raised` has bit p for raised p, `fets` .., `balance` is as 0x46".
 unfoldable pub decisionAfter : Settings → Past → Decision
 decisionAfter page p =
-    decision (length (p .history) % 1000000) (raisedWord (page .limits) (p .history)) (switchesWord (switchAfter page p))
+    decision (tickAfter (p .history)) (raisedWord (page .limits) (p .history)) (switchesWord (switchAfter page p))
     (bledAfter page (p .history)) (modeAfter page (p .history))
 
 -- ---- from the state
@@ -89,11 +93,14 @@ decisionOf p = decision (p .tick) (raisedBits (p .protections)) (switchesOf p) (
 
 -- ---- what the walk over the order needs
 
-module _ (raised : ℕ → Bool) (order : List ℕ) (other i : ℕ) (inside : i < length order) where
-  pub mode-found : raised (getD order i 0) ≡ true → firstMode raised (drop i order) other ≡ modeNumber (rowAt (getD order i 0) .mode)
-  unfolding firstMode
-  mode-found t = rw (drop-cons order i 0 inside, t)
+module _ (raised : ℕ → Bool) (order : List ProtectionNo) (other i : ℕ) (inside : i < length order) where
+  abbrev place : ProtectionNo
+  place = getD order i (no 0)
 
-  pub mode-next : raised (getD order i 0) ≡ false → firstMode raised (drop i order) other ≡ firstMode raised (drop (i + 1) order) other
+  pub mode-found : raised (place .0) ≡ true → firstMode raised (drop i order) other ≡ modeNumber (rowAt (place .0) .mode)
   unfolding firstMode
-  mode-next t = rw (add-one, drop-cons order i 0 inside, t)
+  mode-found t = rw (drop-cons order i (no 0) inside, t)
+
+  pub mode-next : raised (place .0) ≡ false → firstMode raised (drop i order) other ≡ firstMode raised (drop (i + 1) order) other
+  unfolding firstMode
+  mode-next t = rw (add-one, drop-cons order i (no 0) inside, t)

@@ -52,7 +52,15 @@ fn mode_number(m: Mode) -> u8
 }
 
 // The order in which raised protections give the mode.
-const ORDER: [u8; 7] = [4, 3, 2, 0, 7, 6, 5];
+const ORDER: [ProtectionNo; 7] = [
+    ProtectionNo(4),
+    ProtectionNo(3),
+    ProtectionNo(2),
+    ProtectionNo(0),
+    ProtectionNo(7),
+    ProtectionNo(6),
+    ProtectionNo(5),
+];
 
 // The mode of the first raised protection from place i of the order on, or `other`.
 fn first_mode(raised: u16, other: u8) -> u8
@@ -61,8 +69,8 @@ fn first_mode(raised: u16, other: u8) -> u8
     let mut i: usize = 0;
     while i < 7 {
         let p = ORDER[i];
-        if has_bit(raised, p) {
-            let row = row_of(ProtectionNo(p));
+        if has_bit(raised, p.0) {
+            let row = row_of(p);
             let mode = row.mode;
             return mode_number(mode);
         }

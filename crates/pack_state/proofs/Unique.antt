@@ -1,4 +1,4 @@
--- Two answers that a contract of `state` allows are equal. Assumes nothing.
+-- Two answers that a contract of `pack_state` allows are equal. Assumes nothing.
 use mathlib.Core.Path.{sym, _∙_}
 use Rattle.laws.specs.Unique.{Unique}
 use Rattle.pack_state.proofs.accept.Kinds as accept-kinds

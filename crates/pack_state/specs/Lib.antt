@@ -1,3 +1,8 @@
+-- To be believed: the past of a pack, what counts of all that happened to it.
 pub mod Past
+-- To be believed, its first part: the state of a page and a past, as document 01 says it. Then the step that the code takes.
 pub mod State
+-- The step leads from the state of a past to the state of the longer past; what the state keeps that no output shows.
 pub mod Steps
+-- Computed cases: the tick, and the starred seven samples with the start cell, who rests and who is bled at each.
+pub mod Cases

@@ -43,6 +43,10 @@ abbrev pub latestOf : List Sample → Sample
 latestOf [] = noSample
 latestOf (s ∷ h) = s
 
+-- "`tick` is the count of accepted samples modulo 1000000."
+abbrev pub tickAfter : List Sample → ℕ
+tickAfter h = length h % 1000000
+
 abbrev pub anySample : List Sample → Bool
 anySample [] = false
 anySample (s ∷ h) = true
@@ -86,7 +90,7 @@ module _ (page : Settings) where
         latest = latestOf (p .history);
         sampled = anySample (p .history);
         command = p .standing;
-        tick = length (p .history) % 1000000;
+        tick = tickAfter (p .history);
       }
 
 -- ---- the step that the code takes
@@ -112,20 +116,19 @@ nextBalance r want b =
     }
 
 -- The word of the cells that want bleeding at a sample whose highest and lowest cell are e, by the protections after it.
-unfoldable pub wantWith : Extremes → Rules → Sample → List Protection → ℕ
-wantWith e r s ps =
+unfoldable pub wantWith : Rules → Sample → Extremes → List Protection → ℕ
+wantWith r s e ps =
     wantingWord (r .n) (isCharging (r .detection) (s .current)) (anyRaised ps) (r .floor .0) (r .difference .0) (e .lowest .0) (s .cells)
 
-abbrev pub wantAt : Rules → Sample → List Protection → ℕ
-wantAt r s ps = wantWith (extremesOf (s .cells) (s .count)) r s ps
-
--- The pack after an accepted sample, of which `s` is kept.
+-- The pack after an accepted sample, of which `s` is kept: "protections first, then bleeding with the new protections".
 unfoldable pub acceptedPack : Pack → Sample → Pack
 acceptedPack p s =
+    let stepped : List Protection = stepAll s (p .protections) in
+    let want : ℕ = wantWith (p .rules) s (extremesOf (s .cells) (s .count)) stepped in
     record {
       rules = p .rules;
-      protections = stepAll s (p .protections);
-      balance = nextBalance (p .rules) (wantAt (p .rules) s (stepAll s (p .protections))) (p .balance);
+      protections = stepped;
+      balance = nextBalance (p .rules) want (p .balance);
       latest = s;
       sampled = true;
       command = p .command;

@@ -12,12 +12,14 @@ use borrow.Author.Tests.{ltb-true, ltb-false}
 use Rattle.laws.specs.Tests.{by-test}
 use Rattle.units.specs.declared.CellNo.{CellNo}
 use Rattle.sample.specs.declared.Sample.{Sample}
+use Rattle.sample.specs.Cells.{extremesOf}
 use Rattle.guard.specs.declared.rule.Protection.{Protection}
 use Rattle.guard.specs.Steps.{AllGood, protectionsOf, protections-step}
 use Rattle.guard_raised.specs.Words.{anyRaised-is}
 use Rattle.page_settings.specs.declared.Settings.{Settings}
 use Rattle.page_settings.specs.Good.{Good}
-use Rattle.bleed.specs.Walk.History.{startCell}
+use Rattle.bleed_wants.specs.Word.{inWord, wordTo-in}
+use Rattle.bleed.specs.Walk.History.{resting, startCell}
 use Rattle.bleed.specs.Resting.Steps.{nextRuns, restingWord}
 use Rattle.bleed.specs.Walk.Steps.{chosenWord}
 use Rattle.bleed.specs.Walk.Balance.{runsOf, bledWord, Shows, wanting-shows, next-start-is, resting-is, choose-is, runs-are}
@@ -25,11 +27,11 @@ use Rattle.page_settings.specs.declared.Rules.{Rules}
 use Rattle.pack_state.specs.declared.Balance.{Balance}
 use Rattle.pack_state.specs.declared.Pack.{Pack}
 use Rattle.pack_state.specs.Past.{Past, past}
-use Rattle.pack_state.specs.State.{byPage, wishAt, wishesOf, restedAfter, bledAfter, balanceAfter, stateOf, nextTick, nextBalance, wantWith, wantAt, acceptedPack, freshBalance, freshPack}
+use Rattle.pack_state.specs.State.{byPage, wishAt, wishesOf, bledsAfter, restedAfter, bledAfter, balanceAfter, stateOf, nextTick, nextBalance, wantWith, acceptedPack, freshBalance, freshPack}
 
 -- ---- the tick
 
-pub tick-next : (count : ℕ) → nextTick (count % 1000000) ≡ suc count % 1000000
+tick-next : (count : ℕ) → nextTick (count % 1000000) ≡ suc count % 1000000
 unfolding nextTick
 tick-next count =
     by-test (ltb (count % 1000000) 999999)
@@ -83,9 +85,13 @@ module _ (page : Settings) (good : Good page) where
 
   -- ---- bleeding
 
-  -- The wanting word of the code shows who wants.
+  -- The code's word of the cells that want at a sample.
+  abbrev wantOf : Sample → List Protection → ℕ
+  wantOf s ps = wantWith (page .rules) s (extremesOf (s .cells) (s .count)) ps
+
+  -- It shows who wants.
   want-shows : (s : Sample) (h : List Sample)
-      → Shows (page .rules .n) (wantAt (page .rules) s (protectionsOf (page .limits) (s ∷ h))) (wishAt page s h)
+      → Shows (page .rules .n) (wantOf s (protectionsOf (page .limits) (s ∷ h))) (wishAt page s h)
   unfolding wantWith wishAt
   want-shows s h = rw (anyRaised-is (page .limits) (s ∷ h)) (wanting-shows (page .rules .n) _ _ _ _ _ (s .cells) ten)
 
@@ -98,8 +104,9 @@ module _ (page : Settings) (good : Good page) where
       let same : length h ≡ length ws = sym (wishes-length page h) in
       let begun : suc (length h) - 1 ≡ length h = omega arith in
       let rests : ℕ = restingWord (page .rules .n) (page .rules .r) (byPage page bledWord ws) (byPage page runsOf ws) in
-      let bled : chosenWord (page .rules .n) (page .rules .k) want rests (startCell (page .rules .n) (length h)) ≡ byPage page bledWord (wishAt page s h ∷ ws) =
-      ap (λ (i : ℕ). chosenWord (page .rules .n) (page .rules .k) want rests (startCell (page .rules .n) i)) same
+      let chosen : ℕ → ℕ = λ i. chosenWord (page .rules .n) (page .rules .k) want rests (startCell (page .rules .n) i) in
+      let bled : chosen (length h) ≡ byPage page bledWord (wishAt page s h ∷ ws) =
+      ap chosen same
       ∙ byPage page choose-is some ten limited short ws (wishAt page s h) want shows in
       balance-same
       (ap (λ (i : ℕ). record { 0 = startCell (page .rules .n) i }) (sym begun))
@@ -118,9 +125,25 @@ module _ (page : Settings) (good : Good page) where
       let h = p .history in
       let guarded = protections-step (page .limits) limits-good s h in
       pack-same guarded
-      (ap (λ (ps : List Protection). nextBalance (page .rules) (wantAt (page .rules) s ps) (balanceAfter page h)) guarded
-      ∙ balance-next s h (wantAt (page .rules) s (protectionsOf (page .limits) (s ∷ h))) (want-shows s h))
+      (ap (λ (ps : List Protection). nextBalance (page .rules) (wantOf s ps) (balanceAfter page h)) guarded
+      ∙ balance-next s h (wantOf s (protectionsOf (page .limits) (s ∷ h))) (want-shows s h))
       (tick-next (length h))
+
+  -- ---- what the state keeps of the latest accepted sample, and no word and no line shows
+
+  -- `begun` is its start cell,
+  pub begun-is : (s : Sample) (h : List Sample) (c : ℕ)
+      → stateOf page (past (s ∷ h) c) .balance .begun .0 ≡ startCell (page .rules .n) (length h)
+  unfolding stateOf balanceAfter
+  begun-is s h c = ap (startCell (page .rules .n)) (omega arith)
+
+  -- and bit k - 1 of `rested` is set exactly if cell k was resting at it: "if it was bled at each of the R accepted samples just before".
+  pub rested-is : (s : Sample) (h : List Sample) (c k : ℕ) → 1 ≤ k → k ≤ page .rules .n
+      → inWord (stateOf page (past (s ∷ h) c) .balance .rested) k ≡ resting (page .rules .r) (bledsAfter page h) k
+  unfolding stateOf balanceAfter restedAfter
+  rested-is s h c k first last =
+      let most = ten in
+      wordTo-in (page .rules .n) k (resting (page .rules .r) (bledsAfter page h)) (omega arith) first last
 
 -- ---- at the load
 

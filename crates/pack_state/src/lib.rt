@@ -28,7 +28,7 @@ pub struct Balance {
 }
 
 // The state of a pack: what the page says (its limits stand in the protections), and what was kept since. It does not grow with the
-// history. Without a page n is 0, and every sample and command is refused.
+// history. Without a page n is 0, and every sample is refused.
 pub struct Pack {
     pub rules: Rules,
     pub protections: [Protection; PROTECTIONS],
@@ -52,7 +52,7 @@ fn next_tick(t: u32) -> u32
 
 // The cells that want bleeding, by the protections after the sample.
 fn want_at(r: Rules, s: Sample, e: Extremes, ps: [Protection; PROTECTIONS]) -> u16
-    ensures { λ w. ⌜ w ≡ wantWith e r s ps ⌝ }
+    ensures { λ w. ⌜ w ≡ wantWith r s e ps ⌝ }
 {
     let charging = is_charging(r.detection, s.current);
     let raised = any_raised(ps);

@@ -5,11 +5,11 @@ use mathlib.Core.Path.{_≡_, refl}
 use mathlib.Core.Bool.{Bool, true, false, _&&_}
 use mathlib.Core.List.{List}
 use Prim.Native.Nat.{ℕ}
-use lib.Dec.{ltb, leb, eqb}
+use lib.Dec.{leb, eqb}
 use Rattle.laws.specs.Tests.{by-test}
 use Rattle.sample.specs.declared.Sample.{Sample}
 use Rattle.units.specs.Cells.{lookedAt}
-use Rattle.pack_refusals.specs.Samples.{cellsFit, temperatureFits, sampleRefusals, sampleVerdict, commandRefusals, commandVerdict}
+use Rattle.pack_refusals.specs.Samples.{cellsFit, temperatureFits, exactCount, sampleRefusals, sampleVerdict, commandRefusals, commandVerdict}
 use Rattle.pack_state.specs.declared.Pack.{Pack}
 use Rattle.pack.specs.Answers.{offered, commanded}
 use Rattle.log_entries.specs.declared.Kind.{Kind}
@@ -34,21 +34,21 @@ isMalformed Malformed = true
 sample-never : (n : ℕ) (s : Sample) (p : Pack) → isSeventeen (toldBy (sampleVerdict n s) p) ≡ false
 unfolding sampleVerdict sampleRefusals
 sample-never n s p =
-    by-test (ltb 0 n && eqb (s .count) n)
+    by-test (exactCount n (s .count))
     (λ a. rw a
     (by-test (cellsFit (s .cells) (lookedAt (s .count)))
     (λ b. rw b (by-test (temperatureFits (s .t1 .0) && temperatureFits (s .t2 .0)) (λ d. rw d) (λ d. rw d)))
     (λ b. rw b)))
     (λ a. rw a)
 
-command-never : (n c : ℕ) (p : Pack) → isSeventeen (toldBy (commandVerdict n c) p) ≡ false
+command-never : (c : ℕ) (p : Pack) → isSeventeen (toldBy (commandVerdict c) p) ≡ false
 unfolding commandVerdict commandRefusals
-command-never n c p = by-test (ltb 0 n && leb c 3) (λ a. rw a) (λ a. rw a)
+command-never c p = by-test (leb c 3) (λ a. rw a) (λ a. rw a)
 
 by-kind : (k : Kind) (p : Pack) (e : Entry) → isSeventeen (turnedBy (answeredAs k p e) .told) ≡ isMalformed k
 unfolding turnedBy offered commanded
 by-kind Offer p e = sample-never (p .rules .n) (e .sample) _
-by-kind Command p e = command-never (p .rules .n) (e .command) _
+by-kind Command p e = command-never (e .command) _
 by-kind Malformed p e = refl
 
 -- For every pack and every sequence of bytes.

@@ -12,4 +12,4 @@ frame-one : Unique 0 frame-kinds.ps frame-kinds.r frame.Post
 frame-one κs a x y s t p q = p ∙ sym q
 
 answer-to-one : Unique 0 answer-to-kinds.ps answer-to-kinds.r answer-to.Post
-answer-to-one κs a x y s t p q = p ∙ sym q
+answer-to-one κs a x y s t p q = p .0 ∙ sym (q .0)

@@ -11,4 +11,4 @@ use Rattle.bus.proofs.reply.reply.Kinds as reply-kinds
 reply-one : (κs : Lfts 1) (a : Dens κs reply-kinds.ps) (x y : resT reply-kinds.r κs .Denot)
     (s t : AtExit (endedOf 1 reply-kinds.ps reply-kinds.r) κs)
     → reply.Post κs a x s → reply.Post κs a y t → (x ≡ y) × (s .1 .1 .0 .now ≡ t .1 .1 .0 .now)
-reply-one κs a x y s t p q = (p .0 ∙ sym (q .0), p .1 ∙ sym (q .1))
+reply-one κs a x y s t p q = (p .0 .0 ∙ sym (q .0 .0), p .1 ∙ sym (q .1))

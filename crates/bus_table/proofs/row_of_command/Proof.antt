@@ -1,4 +1,4 @@
--- `commands::row_of_command` meets its contract. Assumes nothing.
+-- `bus_table::row_of_command` meets its contract. Assumes nothing.
 use Rattle.bus_table.specs.Table.{rowOf, table, row-none}
 use Rattle.bus_table.proofs.row_of_command.Statement.{statement}
 use Rattle.bus_table.proofs.row_of_command.Tie as tie

@@ -1,4 +1,4 @@
--- `sent::cell_word` meets its contract. Assumes nothing.
+-- `bus_words::cell_word` meets its contract. Assumes nothing.
 use Rattle.bus_words.specs.Words.{cell-zero, cell-past, cell-there}
 use borrow.Author.Needs.{needs}
 use Rattle.bus_words.proofs.cell_word.Statement.{statement}

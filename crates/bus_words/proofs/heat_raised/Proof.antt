@@ -1,4 +1,4 @@
--- `sent::heat_raised` meets its contract. Assumes nothing.
+-- `bus_words::heat_raised` meets its contract. Assumes nothing.
 use Rattle.bus_words.specs.Words.{heatRaised}
 use borrow.Author.Needs.{needs}
 use Rattle.bus_words.proofs.heat_raised.Statement.{statement}

@@ -1,4 +1,4 @@
--- `sent::pack_word` meets its contract. Assumes nothing.
+-- `bus_words::pack_word` meets its contract. Assumes nothing.
 use Rattle.bus_words.specs.Words.{packWord}
 use mir.Facts.{toZ-ofZ}
 use mir.Syntax.{w16}

@@ -1,4 +1,4 @@
--- `sent::raised_and_switches` meets its contract. Assumes nothing.
+-- `bus_words::raised_and_switches` meets its contract. Assumes nothing.
 use Rattle.bus_words.specs.Words.{withSwitches}
 use borrow.Author.Needs.{needs}
 use Rattle.bus_words.proofs.raised_and_switches.Statement.{statement}

@@ -1,4 +1,4 @@
--- `sent::sent_word` meets its contract. Assumes nothing.
+-- `bus_words::sent_word` meets its contract. Assumes nothing.
 use Rattle.bus_words.specs.Words.{sentWord}
 use Rattle.bus_words.specs.Bounds.{kept-bounded}
 use borrow.Author.Needs.{needs}

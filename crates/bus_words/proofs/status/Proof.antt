@@ -1,4 +1,4 @@
--- `sent::status` meets its contract. Assumes nothing.
+-- `bus_words::status` meets its contract. Assumes nothing.
 use Rattle.bus_words.specs.Words.{heatRaised, saidOf, status-built}
 use Rattle.laws.specs.Bits.{hasBit}
 use Rattle.bleed_wants.specs.Wants.{isCharging}

@@ -1,4 +1,4 @@
--- `sent::unless_blocked` meets its contract. Assumes nothing.
+-- `bus_words::unless_blocked` meets its contract. Assumes nothing.
 use borrow.Author.Needs.{needs}
 use Rattle.bus_words.proofs.unless_blocked.Statement.{statement}
 use Rattle.bus_words.proofs.unless_blocked.Tie as tie

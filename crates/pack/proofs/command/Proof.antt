@@ -19,10 +19,10 @@ enum-told-2 c = search needs
 
 returns : tie.Need-returns
 unfolding withCommand
-returns c = command-accepted _ (c .before .before .before .before .pre) _ _ (c .before .before .command-verdict .ensures) (c .enum-told .given .1)
+returns c = command-accepted _ (c .before .before .before .pre) _ _ (c .before .before .command-verdict .ensures) (c .enum-told .given .1)
 
 returns-2 : tie.Need-returns-2
-returns-2 c = command-refused _ (c .before .before .before .before .pre) _ _ _ _ (c .before .before .command-verdict .ensures) (c .enum-told2 .given .1)
+returns-2 c = command-refused _ (c .before .before .before .pre) _ _ _ _ (c .before .before .command-verdict .ensures) (c .enum-told2 .given .1)
 
 pub command-spec : {M : Type 1} → statement M
 command-spec =

@@ -1,4 +1,4 @@
--- `samples::cell_too` meets its contract. Assumes nothing.
+-- `pack_refusals::cell_too` meets its contract. Assumes nothing.
 use borrow.Author.Needs.{needs}
 use Rattle.pack_refusals.proofs.cell_too.Statement.{statement}
 use Rattle.pack_refusals.proofs.cell_too.Tie as tie

@@ -1,8 +1,9 @@
--- `samples::cells_fit` meets its contract. The loop's invariant: `ok` says whether the first `i` cells fit. Assumes nothing.
+-- `pack_refusals::cells_fit` meets its contract. The loop's invariant: `ok` says whether the first `i` cells fit. Assumes nothing.
 use Prim.Native.Nat.{_-_, _≤_}
 use mathlib.Core.Path.{_≡_, refl, ap, _∙_}
 use Rattle.units.specs.Cells.{looked-most}
-use Rattle.pack_refusals.specs.Samples.{cellsFit, fits-next}
+use Rattle.pack_refusals.specs.SampleLaws.{fits-next}
+use Rattle.pack_refusals.specs.Samples.{cellsFit}
 use borrow.Author.Needs.{needs}
 use native.Mathlib.Omega.{arith}
 use Rattle.pack_refusals.proofs.cells_fit.Statement.{statement}

@@ -1,4 +1,4 @@
--- `samples::temperature_fits` meets its contract. Assumes nothing.
+-- `pack_refusals::temperature_fits` meets its contract. Assumes nothing.
 use borrow.Author.Tests.{le-leb, lt-leb}
 use Rattle.page_words.specs.Ranges.{within}
 use Rattle.pack_refusals.proofs.temperature_fits.Statement.{statement}

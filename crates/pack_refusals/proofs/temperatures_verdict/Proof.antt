@@ -1,4 +1,4 @@
--- `samples::temperatures_verdict` meets its contract. Assumes nothing.
+-- `pack_refusals::temperatures_verdict` meets its contract. Assumes nothing.
 use Rattle.pack_refusals.specs.Samples.{temperaturesVerdict}
 use borrow.Author.Needs.{needs}
 use Rattle.pack_refusals.proofs.temperatures_verdict.Statement.{statement}

@@ -1,4 +1,4 @@
--- `samples::trim` meets its contract. The loop's invariant: the first `i` entries are kept or 0, the others as they were. Assumes nothing.
+-- `pack_refusals::trim` meets its contract. The loop's invariant: the first `i` entries are kept or 0, the others as they were. Assumes nothing.
 use Prim.Native.Nat.{_-_, _≤_}
 use mathlib.Core.Path.{_≡_, refl}
 use Rattle.sample.specs.Cells.{noVolts}

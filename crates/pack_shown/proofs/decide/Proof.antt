@@ -1,4 +1,4 @@
--- `shown::decide` meets its contract. Assumes nothing.
+-- `pack_shown::decide` meets its contract. Assumes nothing.
 use Rattle.pack_shown.specs.Shown.{decisionOf}
 use borrow.Author.Needs.{needs}
 use Rattle.pack_shown.proofs.decide.Statement.{statement}

@@ -1,4 +1,4 @@
--- `shown::first_mode` meets its contract. The loop's invariant: the mode is that of the rest of the order. Assumes nothing.
+-- `pack_shown::first_mode` meets its contract. The loop's invariant: the mode is that of the rest of the order. Assumes nothing.
 use Prim.Native.Nat.{_-_, _≤_}
 use mathlib.Core.Path.{_≡_, refl, sym, ap, _∙_}
 use lib.ListN.{drop}
@@ -19,8 +19,8 @@ abbrev μ-loop : tie.MeasureT-loop
 loop-holds : tie.Need-loop-holds Inv-loop μ-loop
 loop-holds c = (omega arith, refl)
 
-array-read-p : tie.Need-array-read-p Inv-loop μ-loop
-array-read-p c = search needs
+array-copy-out-p : tie.Need-array-copy-out-p Inv-loop μ-loop
+array-copy-out-p c = search needs
 
 has-bit-requires : tie.Need-has-bit-requires Inv-loop μ-loop
 has-bit-requires c κs = search needs
@@ -33,7 +33,13 @@ mode-number-requires c κs = search needs
 
 returns : tie.Need-returns Inv-loop μ-loop
 unfolding modeOrder
-returns c = c .mode-number .ensures ∙ ap modeNumber (ap (λ (r : Row). r .mode) (c .before .row-of .ensures)) ∙ sym (c .before .before .before .before .before .loop .inv .1 ∙ mode-found (hasBit (c .before .before .before .before .before .before .args .raised)) modeOrder (c .before .before .before .before .before .before .args .other) (c .before .before .before .before .before .loop .i) (omega arith) (sym (c .before .before .before .has-bit .ensures) ∙ c .before .before .if1 .taken))
+returns c =
+    let d = c .before .before .before .before .before .before in
+    c .mode-number .ensures
+    ∙ ap modeNumber (ap (λ (r : Row). r .mode) (c .before .row-of .ensures))
+    ∙ sym (d .loop .inv .1
+    ∙ mode-found (hasBit (d .before .args .raised)) modeOrder (d .before .args .other) (d .loop .i) (omega arith)
+    (sym (c .before .before .before .has-bit .ensures) ∙ c .before .before .if1 .taken))
 
 add-i : tie.Need-add-i Inv-loop μ-loop
 add-i c = search needs
@@ -43,7 +49,13 @@ loop-less c = omega arith
 
 loop-again : tie.Need-loop-again Inv-loop μ-loop
 unfolding modeOrder
-loop-again c = (omega arith, c .before .before .before .loop .inv .1 ∙ mode-next (hasBit (c .before .before .before .before .args .raised)) modeOrder (c .before .before .before .before .args .other) (c .before .before .before .loop .i) (omega arith) (sym (c .before .has-bit .ensures) ∙ c .if1 .left))
+loop-again c =
+    let d = c .before .before .before .before in (
+      omega arith,
+      d .loop .inv .1
+          ∙ mode-next (hasBit (d .before .args .raised)) modeOrder (d .before .args .other) (d .loop .i) (omega arith)
+          (sym (c .before .has-bit .ensures) ∙ c .if1 .left),
+    )
 
 returns-2 : tie.Need-returns-2 Inv-loop μ-loop
 unfolding modeOrder firstMode
@@ -58,7 +70,7 @@ first-mode-spec =
     Inv-loop
     μ-loop
     loop-holds
-    array-read-p
+    array-copy-out-p
     has-bit-requires
     row-of-requires
     mode-number-requires

@@ -1,4 +1,4 @@
--- `shown::mode` meets its contract. Assumes nothing.
+-- `pack_shown::mode` meets its contract. Assumes nothing.
 use mir.Syntax.{w16}
 use mir.Facts.{toZ-ofZ}
 use Rattle.pack_shown.specs.Shown.{modeOf}

@@ -1,4 +1,4 @@
--- `shown::switch_on` meets its contract. Assumes nothing.
+-- `pack_shown::switch_on` meets its contract. Assumes nothing.
 use borrow.Author.Needs.{needs}
 use Rattle.pack_shown.proofs.switch_on.Statement.{statement}
 use Rattle.pack_shown.proofs.switch_on.Tie as tie

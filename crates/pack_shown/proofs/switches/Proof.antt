@@ -1,4 +1,4 @@
--- `shown::switches` meets its contract. Assumes nothing.
+-- `pack_shown::switches` meets its contract. Assumes nothing.
 use Rattle.pack_shown.specs.Shown.{switchesOf}
 use borrow.Author.Needs.{needs}
 use Rattle.pack_shown.proofs.switches.Statement.{statement}

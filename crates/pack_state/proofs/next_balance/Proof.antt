@@ -1,4 +1,4 @@
--- `state::next_balance` meets its contract. Assumes nothing.
+-- `pack_state::next_balance` meets its contract. Assumes nothing.
 use Rattle.pack_state.specs.State.{nextBalance}
 use borrow.Author.Needs.{needs}
 use Rattle.pack_state.proofs.next_balance.Statement.{statement}

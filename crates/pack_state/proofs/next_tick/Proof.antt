@@ -1,4 +1,4 @@
--- `state::next_tick` meets its contract. Assumes nothing.
+-- `pack_state::next_tick` meets its contract. Assumes nothing.
 use borrow.Author.Tests.{lt-ltb, le-ltb}
 use Rattle.pack_state.specs.State.{nextTick}
 use borrow.Author.Needs.{needs}

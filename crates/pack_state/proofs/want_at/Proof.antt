@@ -1,4 +1,4 @@
--- `state::want_at` meets its contract. Assumes nothing.
+-- `pack_state::want_at` meets its contract. Assumes nothing.
 use mir.Syntax.{w16}
 use mir.Facts.{toZ-ofZ}
 use Rattle.pack_state.specs.State.{wantWith}

@@ -1,4 +1,4 @@
--- `replies::put` meets its contract. Assumes nothing.
+-- `bus::put` meets its contract. Assumes nothing.
 use lib.ListN.{length-set}
 use native.Mathlib.Omega.{arith}
 use Rattle.bus.specs.Replies.{three-put}

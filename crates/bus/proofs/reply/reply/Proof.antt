@@ -1,5 +1,5 @@
--- `replies::reply` meets its contract. Assumes nothing.
-use Rattle.bus.specs.Replies.{repliedTo, bytesAfter, sent-room}
+-- `bus::reply` meets its contract. Assumes nothing.
+use Rattle.bus.specs.Replies.{answerTo, bufferOf, sent-room}
 use mathlib.Core.Path.{sym, _∙_}
 use borrow.Author.Needs.{needs}
 use Rattle.bus.proofs.reply.reply.Statement.{statement}
@@ -18,15 +18,21 @@ frame-requires : tie.Need-frame-requires
 frame-requires c κs = search needs
 
 put-requires : tie.Need-put-requires
-unfolding repliedTo
-put-requires c κs = λ e. sent-room _ _ _ _ (sym (c .before .before .before .before .answer-to .ensures) ∙ e)
+unfolding answerTo
+put-requires c κs = λ e. sent-room _ _ _ _ (sym (c .before .before .before .before .answer-to .ensures .0) ∙ e)
 
 same-length : tie.Need-same-length
 same-length c = search needs
 
 returns : tie.Need-returns
-unfolding bytesAfter
-returns c = (c .before .before .before .before .before .before .before .answer-to .ensures, rw (← c .before .before .before .before .before .before .before .answer-to .ensures, ← c .before .before .before .before .before .before .row-of-command .ensures, ← c .before .before .before .before .before .sent-word .ensures, ← c .before .before .before .before .frame .ensures) (c .before .before .put .ensures))
+unfolding bufferOf
+returns c =
+    let d = c .before .before .before .before in
+    let answer = d .before .before .before .answer-to .ensures in (
+      answer,
+      rw (← answer .0, ← d .before .before .row-of-command .ensures, ← d .before .sent-word .ensures, ← d .frame .ensures)
+          (c .before .before .put .ensures),
+    )
 
 pub reply-spec : {M : Type 1} → statement M
 reply-spec =

@@ -1,12 +1,12 @@
--- `sent::sum_of` meets its contract. The loop's invariant: `sum` is the sum of the first `i` cells. Assumes nothing.
+-- `bus_words::sum_to` meets its contract. The loop's invariant: `sum` is the sum of the first `i` cells. Assumes nothing.
 use Rattle.bus_words.specs.Words.{sumTo, sum-none, sum-next}
 use Rattle.units.specs.Cells.{looked-most}
 use Prim.Native.Nat.{_-_, _*_, _≤_}
 use mathlib.Core.Path.{_≡_, ap, _∙_}
 use borrow.Author.Needs.{needs}
 use native.Mathlib.Omega.{arith}
-use Rattle.bus_words.proofs.sum_of.Statement.{statement}
-use Rattle.bus_words.proofs.sum_of.Tie as tie
+use Rattle.bus_words.proofs.sum_to.Statement.{statement}
+use Rattle.bus_words.proofs.sum_to.Tie as tie
 
 abbrev Inv-loop : tie.InvT-loop
 Inv-loop count cells n sum₀ i₀ sum i = (i ≤ n) × (n ≤ 10) × (sum ≤ 65535 * i) × (sum ≡ sumTo cells i)
@@ -44,8 +44,8 @@ loop-again c = (omega arith, omega arith, omega arith, sum-next _ _ _ (c .before
 returns : tie.Need-returns Inv-loop μ-loop
 returns c = let e : c .before .loop .i ≡ c .before .before .looked-at .result = omega arith in c .before .loop .inv .3 ∙ ap (sumTo (c .before .before .before .args .t1)) (e ∙ c .before .before .looked-at .ensures)
 
-pub sum-of-spec : {M : Type 1} → statement M
-sum-of-spec =
+pub sum-to-spec : {M : Type 1} → statement M
+sum-to-spec =
     tie.close
     (tie.spec
     Inv-loop

@@ -1,0 +1,68 @@
+-- Samples that agree: what stands past the count of a sample is no part of it.
+-- Assumes nothing.
+use mathlib.Core.Path.{_≡_, refl, sym, ap, _∙_}
+use mathlib.Core.List.{List}
+use Prim.Native.Nat.{ℕ, zero, suc, _≤_, _<_}
+use native.Mathlib.Omega.{arith}
+use lib.Dec.{ltb}
+use lib.ListN.{getD, length}
+use lib.Seq.{ext-getD}
+use borrow.Author.Tests.{ltb-true, ltb-false}
+use Rattle.laws.specs.Tests.{by-test}
+use Rattle.laws.specs.Each.{eachTo, each-length, each-below}
+use Rattle.units.specs.declared.MilliVolts.{MilliVolts}
+use Rattle.units.specs.Cells.{lookedAt}
+use Rattle.sample.specs.Cells.{noVolts}
+use Rattle.sample.specs.declared.Sample.{Sample}
+use Rattle.pack_refusals.specs.Samples.{cellsFit, sampleRefusals, sampleVerdict, keptCell, trimmed}
+
+-- Two samples agree up to their count: what they hold past it is no part of either.
+pub record Agree (s t : Sample) : Type 0 where
+  pub count : s .count ≡ t .count
+  pub cells : (i : ℕ) → i < s .count → getD (s .cells) i noVolts ≡ getD (t .cells) i noVolts
+  pub current : s .current ≡ t .current
+  pub t1 : s .t1 ≡ t .t1
+  pub t2 : s .t2 ≡ t .t2
+
+fit-same : (a b : List MilliVolts) (k : ℕ) → ((i : ℕ) → i < k → getD a i noVolts ≡ getD b i noVolts) → cellsFit a k ≡ cellsFit b k
+unfolding cellsFit
+fit-same a b zero same = refl
+fit-same a b (suc k) same = rw (fit-same a b k (λ i h. same i (omega arith)), same k (omega arith))
+
+looked-within : (count : ℕ) → lookedAt count ≤ count
+looked-within count = by-test (ltb count 10) (λ e. rw e (omega arith)) (λ e. rw e (ltb-false count 10 e))
+
+module _ (s t : Sample) (agree : Agree s t) where
+  cells-same : cellsFit (s .cells) (lookedAt (s .count)) ≡ cellsFit (t .cells) (lookedAt (t .count))
+  cells-same =
+      fit-same (s .cells) (t .cells) (lookedAt (s .count)) (λ i h. agree .cells i (let m = looked-within (s .count) in omega arith))
+      ∙ ap (λ (c : ℕ). cellsFit (t .cells) (lookedAt c)) (agree .count)
+
+  kept : (i : ℕ) → keptCell (s .count) i (getD (s .cells) i noVolts) ≡ keptCell (t .count) i (getD (t .cells) i noVolts)
+  unfolding keptCell
+  kept i =
+      rw (← agree .count) (by-test (ltb i (s .count))
+      (λ e. rw (e, agree .cells i (ltb-true i (s .count) e)))
+      (λ e. rw e))
+
+  -- They are answered alike,
+  pub agree-verdict : (n : ℕ) → sampleVerdict n s ≡ sampleVerdict n t
+  unfolding sampleVerdict sampleRefusals
+  agree-verdict n = rw (cells-same, agree .count, agree .t1, agree .t2)
+
+  -- and the same is kept of both; a sample of ten entries.
+  pub agree-trimmed : length (s .cells) ≡ 10 → length (t .cells) ≡ 10 → trimmed s ≡ trimmed t
+  unfolding trimmed
+  agree-trimmed ls lt =
+      let kept-s = each-length noVolts (keptCell (s .count)) 10 (s .cells) in
+      let kept-t = each-length noVolts (keptCell (t .count)) 10 (t .cells) in
+      let same : eachTo noVolts (keptCell (s .count)) 10 (s .cells) ≡ eachTo noVolts (keptCell (t .count)) 10 (t .cells) =
+      ext-getD noVolts _ _ (kept-s ∙ ls ∙ sym (kept-t ∙ lt)) (λ i h. entry i (omega arith)) in
+      rw (same, agree .count, agree .current, agree .t1, agree .t2)
+    where
+      entry : (i : ℕ) → i < 10
+          → getD (eachTo noVolts (keptCell (s .count)) 10 (s .cells)) i noVolts ≡ getD (eachTo noVolts (keptCell (t .count)) 10 (t .cells)) i noVolts
+      entry i h =
+          each-below noVolts (keptCell (s .count)) 10 (s .cells) i (omega arith) h
+          ∙ kept i
+          ∙ sym (each-below noVolts (keptCell (t .count)) 10 (t .cells) i (omega arith) h)

@@ -1,0 +1,118 @@
+-- Computed cases: the tick's last value, and document 01's starred seven samples, with the start cell, who rests and who is bled at each.
+-- Assumes nothing.
+use mathlib.Core.Path.{_≡_, refl}
+use mathlib.Core.List.{List, [], _∷_, map}
+use Prim.Native.Nat.{ℕ}
+use lib.IntN.{pos}
+use Rattle.laws.specs.Bits.{hasBit, withBit, withBitIf}
+use Rattle.laws.specs.Each.{eachTo}
+use Rattle.laws.specs.Latest.{nextRun}
+use Rattle.laws.specs.Numbered.{listOf}
+use Rattle.laws.specs.Words.{bitsOf, anyOf}
+use Rattle.protections.specs.Table.{rowAt, table}
+use Rattle.sample.specs.Cells.{bestOf, extremesOf}
+use Rattle.sample.specs.Measure.{measure}
+use Rattle.sample.specs.Cases.{minus, sampled}
+use Rattle.sample.specs.declared.Sample.{Sample}
+use Rattle.guard.specs.Cases.{limited}
+use Rattle.guard.specs.Steps.{raised, protectionOf, protectionsOf, stepOne, stepWith, stepAllWith}
+use Rattle.guard_raised.specs.Words.{anyRaised, someRaised}
+use Rattle.bleed_wants.specs.Wants.{wants}
+use Rattle.bleed_wants.specs.Word.{inWord, wordTo}
+use Rattle.bleed_wants.specs.Steps.{cellOf, wishes, wantingWord}
+use Rattle.bleed.specs.Resting.Steps.{nextCell, nextRuns, runOf, rested, restingWord}
+use Rattle.bleed.specs.Walk.Steps.{isCell, chosenWord}
+use Rattle.bleed.specs.Walk.Word.{withCellIf}
+use Rattle.bleed.specs.Walk.Balance.{bledWord}
+use Rattle.page_settings.specs.declared.Settings.{Settings}
+use Rattle.pack_state.specs.declared.Balance.{Balance}
+use Rattle.pack_state.specs.declared.Pack.{Pack}
+use Rattle.pack_state.specs.State.{wishAt, wishesOf, restedAfter, bledAfter, balanceAfter, nextTick, freshBalance, nextBalance, wantWith, acceptedPack, freshPack}
+
+-- "The count of accepted samples modulo 1000000": the tick is 999999 once, and 0 behind it.
+pub tick-wraps : map nextTick (0 ∷ 1 ∷ 99999 ∷ 999998 ∷ 999999 ∷ []) ≡ (1 ∷ 2 ∷ 100000 ∷ 999999 ∷ 0 ∷ [])
+unfolding nextTick
+tick-wraps = refl
+
+-- ---- (*) "n 3, K 1, R 1. At samples 3 to 7 the wanting cells are {1,2}, {1,3}, {1,2}, {1,3}, {1,2}; none want earlier. Bled: 1, 3, 2, 3, 1."
+
+abbrev page : Settings
+page =
+    record {
+      rules = record {
+        n = 3;
+        k = 1;
+        r = 1;
+        floor = record { 0 = 3900 };
+        difference = record { 0 = 10 };
+        detection = pos 100;
+        voltage = record { 0 = 4200 };
+        current = pos 1500;
+      };
+      limits =
+          limited (pos 4250) (pos 4150) 2 3 1
+          ∷ limited (pos 2500) (pos 2600) 2 3 2
+          ∷ limited (pos 5000) (pos 100) 2 3 1
+          ∷ limited (minus 5000) (minus 100) 2 3 2
+          ∷ limited (minus 9000) (minus 100) 2 3 3
+          ∷ limited (pos 3180) (pos 3130) 2 3 1
+          ∷ limited (pos 3330) (pos 3280) 2 3 2
+          ∷ limited (pos 3330) (pos 3280) 2 3 3
+          ∷ [];
+    }
+
+-- Charging with 500 mA: cells of 4020 mV want bleeding beside one of 4000 mV.
+abbrev charged : ℕ → ℕ → ℕ → Sample
+charged a b c = sampled 3 (a ∷ b ∷ c ∷ 0 ∷ 0 ∷ 0 ∷ 0 ∷ 0 ∷ 0 ∷ 0 ∷ []) (pos 500) 2980 2980
+
+-- The seven samples, the latest first.
+abbrev seven : List Sample
+seven =
+    charged 4020 4020 4000
+    ∷ charged 4020 4000 4020
+    ∷ charged 4020 4020 4000
+    ∷ charged 4020 4000 4020
+    ∷ charged 4020 4020 4000
+    ∷ charged 4000 4000 4000
+    ∷ charged 4000 4000 4000
+    ∷ []
+
+-- The start cell, the words of who rested and who was bled, and the next start cell.
+abbrev kept : Balance → List ℕ
+kept b = b .begun .0 ∷ b .rested ∷ b .bled ∷ b .start .0 ∷ []
+
+-- What is kept after each sample of a history, the latest first: as document 01 says it, and step by step.
+abbrev said : List Sample → List (List ℕ)
+said [] = []
+said (s ∷ h) = kept (balanceAfter page (s ∷ h)) ∷ said h
+
+abbrev stepped : List Sample → Pack
+stepped [] = freshPack page
+stepped (s ∷ h) = acceptedPack (stepped h) s
+
+abbrev made : List Sample → List (List ℕ)
+made [] = []
+made (s ∷ h) = kept (stepped (s ∷ h) .balance) ∷ made h
+
+-- Cells 1, 2 and 3 have the bits 1, 2 and 4. Who was bled at the sample before rests, since R is 1.
+abbrev starred : List (List ℕ)
+starred =
+    (1 ∷ 4 ∷ 1 ∷ 2 ∷ [])
+    ∷ (3 ∷ 2 ∷ 4 ∷ 1 ∷ [])
+    ∷ (2 ∷ 4 ∷ 2 ∷ 3 ∷ [])
+    ∷ (1 ∷ 1 ∷ 4 ∷ 2 ∷ [])
+    ∷ (3 ∷ 0 ∷ 1 ∷ 1 ∷ [])
+    ∷ (2 ∷ 0 ∷ 0 ∷ 3 ∷ [])
+    ∷ (1 ∷ 0 ∷ 0 ∷ 2 ∷ [])
+    ∷ []
+
+pub starred-said : said seven ≡ starred
+unfolding balanceAfter restedAfter bledAfter bledWord wishesOf wishAt wishes cellOf wants someRaised anyOf raised rowAt table measure
+    extremesOf bestOf wordTo bitsOf withBitIf withBit withCellIf
+starred-said = refl
+
+pub starred-made : made seven ≡ starred
+unfolding acceptedPack freshPack freshBalance nextBalance wantWith wantingWord wishes cellOf wants anyRaised anyOf stepAllWith
+    stepWith stepOne nextRun protectionsOf protectionOf listOf raised rowAt table measure extremesOf bestOf restingWord rested runOf chosenWord
+    isCell inWord hasBit withCellIf withBitIf withBit wordTo bitsOf nextCell nextRuns eachTo
+starred-made = refl
