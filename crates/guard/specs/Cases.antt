@@ -2,7 +2,7 @@
 -- Assumes nothing.
 use mathlib.Core.Path.{_≡_, refl}
 use mathlib.Core.Bool.{Bool, true, false}
-use mathlib.Core.List.{List, [], _∷_}
+use mathlib.Core.List.{List, [], _∷_, reverse}
 use Prim.Native.Nat.{ℕ}
 use lib.Dec.{eqb}
 use lib.IntN.{ℤ, pos}
@@ -17,7 +17,7 @@ use Rattle.guard.specs.declared.rule.Alarm.{Alarm}
 use Rattle.guard.specs.declared.rule.Alarm.the-variants.{Clear, Raised}
 use Rattle.guard.specs.declared.rule.Protection.{Protection}
 use Rattle.guard.specs.Runs.{isRaised, runOf, alarmOf, alarmAfter}
-use Rattle.guard.specs.Steps.{raised, stepOne, stepWith}
+use Rattle.guard.specs.Steps.{raised, protectionOf, stepOne, stepWith}
 
 -- ---- limits and samples, written short
 
@@ -85,6 +85,20 @@ run-ends = refl
 pub run-after-release : alarmBySteps 0 (loaded starred) starredSamples ≡ Clear 0
 unfolding stepOne stepWith nextRun rowAt table extremesOf bestOf
 run-after-release = refl
+
+-- The same from the history, with the runs: after two samples, six, seven, eight and all ten.
+abbrev alarmSaid : List Sample → Alarm
+alarmSaid h = protectionOf (rowAt 0) starred h .alarm
+
+pub alarms-history
+    : (alarmSaid (high 4250 ∷ high 4250 ∷ [])
+    ∷ alarmSaid (high 4250 ∷ high 4250 ∷ high 4250 ∷ high 4249 ∷ high 4250 ∷ high 4250 ∷ [])
+    ∷ alarmSaid (high 4150 ∷ high 4250 ∷ high 4250 ∷ high 4250 ∷ high 4249 ∷ high 4250 ∷ high 4250 ∷ [])
+    ∷ alarmSaid (high 4151 ∷ high 4150 ∷ high 4250 ∷ high 4250 ∷ high 4250 ∷ high 4249 ∷ high 4250 ∷ high 4250 ∷ [])
+    ∷ alarmSaid (reverse starredSamples) ∷ [])
+    ≡ (Clear 2 ∷ Raised 0 ∷ Raised 1 ∷ Raised 0 ∷ Clear 0 ∷ [])
+unfolding protectionOf rowAt table measure extremesOf bestOf
+alarms-history = refl
 
 -- ---- currents are signed, to both ends of 16 bits
 
