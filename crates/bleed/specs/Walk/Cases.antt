@@ -32,10 +32,10 @@ bled n K R ls = reverse (bleds n K R (history ls))
 -- ---- the worked samples
 
 -- n 3, K 1, R 1: none want at samples 1 and 2.
-abbrev pub starred : List (List ℕ)
-starred = [] ∷ [] ∷ (1 ∷ 2 ∷ []) ∷ (1 ∷ 3 ∷ []) ∷ (1 ∷ 2 ∷ []) ∷ (1 ∷ 3 ∷ []) ∷ (1 ∷ 2 ∷ []) ∷ []
+abbrev pub starredWishes : List (List ℕ)
+starredWishes = [] ∷ [] ∷ (1 ∷ 2 ∷ []) ∷ (1 ∷ 3 ∷ []) ∷ (1 ∷ 2 ∷ []) ∷ (1 ∷ 3 ∷ []) ∷ (1 ∷ 2 ∷ []) ∷ []
 
-pub starred-walk : bled 3 1 1 starred ≡ [] ∷ [] ∷ (1 ∷ []) ∷ (3 ∷ []) ∷ (2 ∷ []) ∷ (3 ∷ []) ∷ (1 ∷ []) ∷ []
+pub starred-walk : bled 3 1 1 starredWishes ≡ [] ∷ [] ∷ (1 ∷ []) ∷ (3 ∷ []) ∷ (2 ∷ []) ∷ (3 ∷ []) ∷ (1 ∷ []) ∷ []
 starred-walk = refl
 
 -- R 1, one cell always wanting, no others.
@@ -113,7 +113,7 @@ all p (k ∷ l) = p k && all p l
 
 -- The worked sample up to its sixth, the two cells, and a history for each n from 2 to 10.
 all-starve :
-    starves 3 1 1 (history (take 6 starred)) && starves 2 1 2 (history both) && all (λ n. starves n 1 1 (waiting n)) (upFrom 2 9) ≡ true
+    starves 3 1 1 (history (take 6 starredWishes)) && starves 2 1 2 (history both) && all (λ n. starves n 1 1 (waiting n)) (upFrom 2 9) ≡ true
 all-starve = refl
 
 all-at : (p : ℕ → Bool) (a m k : ℕ) → all p (upFrom a m) ≡ true → a ≤ k → k < a + m → p k ≡ true
