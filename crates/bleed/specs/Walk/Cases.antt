@@ -9,16 +9,18 @@ use Prim.Native.Nat.{ℕ, zero, suc, _+_, _-_, _≤_, _<_}
 use native.Mathlib.Nat.{eq-or-lt-of-le}
 use native.Mathlib.Omega.{arith}
 use lib.Dec.{eqb}
+use lib.Count.{ones, onesIn}
 use lib.ListN.{take, replicate}
 use borrow.Author.Tests.{eqb-true}
 use Rattle.laws.specs.Tests.{and-left, and-right}
-use Rattle.laws.specs.Bits.{hasBit, withBit}
+use Rattle.laws.specs.Bits.{hasBit, withBit, withBitIf}
 use Rattle.laws.specs.Latest.{lastAll, among}
+use Rattle.bleed.specs.Resting.Steps.{nextCell}
 use Rattle.bleed.specs.Walk.Walk.{has, upFrom}
 use Rattle.bleed.specs.Walk.History.{wantsCell, bleds}
 use Rattle.bleed_wants.specs.Word.{inWord}
-use Rattle.bleed.specs.Walk.Word.{wordOf}
-use Rattle.bleed.specs.Walk.Steps.{isCell, chosenWord}
+use Rattle.bleed.specs.Walk.Word.{withCellIf, wordOf}
+use Rattle.bleed.specs.Walk.Steps.{isCell, chosenWord, besideTaken, mayTake, takeOne, takeFrom}
 use Rattle.bleed.specs.Walk.Balance.{runsOf, bledWord}
 
 -- The cells that want at each sample, in the order of time, as a history of wishes.
@@ -84,6 +86,23 @@ words-chosen :
     ≡ 2 ∷ 1 ∷ 0 ∷ 0 ∷ 0 ∷ 0x2AA ∷ []
 unfolding chosenWord isCell inWord hasBit withBit
 words-chosen = refl
+
+-- One cell of the code's walk: beside cell 2 stand cells 1 and 3, beside cell 1 cell 2 alone.
+cells-beside : map (besideTaken 2) (1 ∷ 2 ∷ 3 ∷ 4 ∷ []) ∷ map (besideTaken 1) (1 ∷ 2 ∷ 3 ∷ []) ∷ [] ≡ (true ∷ false ∷ true ∷ false ∷ []) ∷ (false ∷ true ∷ false ∷ []) ∷ []
+unfolding besideTaken hasBit
+cells-beside = refl
+
+-- It is taken; it rests; its neighbour is taken; K are taken; one less is; it does not want.
+one-taken :
+    takeOne 1 7 0 0 2 ∷ takeOne 1 7 2 0 2 ∷ takeOne 2 7 0 1 2 ∷ takeOne 1 7 0 4 1 ∷ takeOne 2 7 0 4 1 ∷ takeOne 2 5 0 0 2 ∷ []
+    ≡ 2 ∷ 0 ∷ 1 ∷ 4 ∷ 5 ∷ 0 ∷ []
+unfolding takeOne mayTake besideTaken inWord hasBit withCellIf withBitIf withBit ones onesIn
+one-taken = refl
+
+-- Three cells in a row, from cell 2 and from cell 3 on.
+all-taken : takeFrom 3 3 1 7 0 2 0 ∷ takeFrom 3 3 2 7 0 3 0 ∷ takeFrom 1 3 2 7 0 3 0 ∷ [] ≡ 2 ∷ 5 ∷ 4 ∷ []
+unfolding takeFrom takeOne mayTake besideTaken inWord hasBit withCellIf withBitIf withBit nextCell ones onesIn
+all-taken = refl
 
 -- Cell 1 is bit 0, cell 10 is bit 9.
 ends-of-a-word : wordOf (1 ∷ 10 ∷ []) ≡ 0x201
