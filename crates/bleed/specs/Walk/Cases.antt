@@ -92,10 +92,10 @@ cells-beside : map (besideTaken 2) (1 ∷ 2 ∷ 3 ∷ 4 ∷ []) ∷ map (besideT
 unfolding besideTaken hasBit
 cells-beside = refl
 
--- It is taken; it rests; its neighbour is taken; K are taken; one less is; it does not want.
+-- It is taken; it rests; so does cell 3; another rests; its neighbour is taken; K are taken; one less is; it does not want.
 one-taken :
-    takeOne 1 7 0 0 2 ∷ takeOne 1 7 2 0 2 ∷ takeOne 2 7 0 1 2 ∷ takeOne 1 7 0 4 1 ∷ takeOne 2 7 0 4 1 ∷ takeOne 2 5 0 0 2 ∷ []
-    ≡ 2 ∷ 0 ∷ 1 ∷ 4 ∷ 5 ∷ 0 ∷ []
+    takeOne 1 7 0 0 2 ∷ takeOne 1 7 2 0 2 ∷ takeOne 1 7 4 0 3 ∷ takeOne 1 7 4 0 2 ∷ takeOne 2 7 0 1 2 ∷ takeOne 1 7 0 4 1 ∷ takeOne 2 7 0 4 1 ∷ takeOne 2 5 0 0 2 ∷ []
+    ≡ 2 ∷ 0 ∷ 0 ∷ 2 ∷ 1 ∷ 4 ∷ 5 ∷ 0 ∷ []
 unfolding takeOne mayTake besideTaken inWord hasBit withCellIf withBitIf withBit ones onesIn
 one-taken = refl
 
