@@ -2,7 +2,7 @@
 -- Assumes nothing.
 use mathlib.Core.Path.{_≡_, refl}
 use mathlib.Core.Bool.{Bool, true, false}
-use mathlib.Core.List.{List, [], _∷_}
+use mathlib.Core.List.{List, [], _∷_, reverse}
 use Prim.Native.Nat.{ℕ}
 use lib.Dec.{eqb}
 use lib.IntN.{ℤ, pos}
@@ -18,7 +18,7 @@ use Rattle.guard.specs.declared.rule.Alarm.{Alarm}
 use Rattle.guard.specs.declared.rule.Alarm.the-variants.{Clear, Raised}
 use Rattle.guard.specs.declared.rule.Protection.{Protection}
 use Rattle.guard.specs.Runs.{isRaised, runOf, alarmOf, alarmAfter}
-use Rattle.guard.specs.Steps.{raised, stepOne, stepWith}
+use Rattle.guard.specs.Steps.{raised, protectionOf, stepOne, stepWith}
 
 -- ---- limits and samples, written short
 
@@ -55,8 +55,8 @@ alarmBySteps p g (s ∷ coming) = alarmBySteps p (stepWith (extremesOf (s .cells
 
 -- ---- (*) trip 4250, release 4150, N 3, M 2: raised at the sixth only, then released at the fourth
 
-abbrev pub starred : Limits
-starred = limited (pos 4250) (pos 4150) 3 2 1
+abbrev pub starredLimits : Limits
+starredLimits = limited (pos 4250) (pos 4150) 3 2 1
 
 abbrev pub starredSamples : List Sample
 starredSamples =
@@ -65,27 +65,41 @@ starredSamples =
 abbrev pub starredAnswer : List Bool
 starredAnswer = false ∷ false ∷ false ∷ false ∷ false ∷ true ∷ true ∷ true ∷ true ∷ false ∷ []
 
-pub starred-history : fromHistory 0 starred [] starredSamples ≡ starredAnswer
+pub starred-history : fromHistory 0 starredLimits [] starredSamples ≡ starredAnswer
 unfolding raised rowAt table measure extremesOf bestOf
 starred-history = refl
 
-pub starred-steps : bySteps 0 (loaded starred) starredSamples ≡ starredAnswer
+pub starred-steps : bySteps 0 (loaded starredLimits) starredSamples ≡ starredAnswer
 unfolding stepOne stepWith nextRun rowAt table extremesOf bestOf
 starred-steps = refl
 
 -- The runs themselves: two tripping samples, and none once another came.
-pub run-counts : alarmBySteps 0 (loaded starred) (high 4250 ∷ high 4250 ∷ []) ≡ Clear 2
+pub run-counts : alarmBySteps 0 (loaded starredLimits) (high 4250 ∷ high 4250 ∷ []) ≡ Clear 2
 unfolding stepOne stepWith nextRun rowAt table extremesOf bestOf
 run-counts = refl
 
-pub run-ends : alarmBySteps 0 (loaded starred) (high 4250 ∷ high 4250 ∷ high 4249 ∷ []) ≡ Clear 0
+pub run-ends : alarmBySteps 0 (loaded starredLimits) (high 4250 ∷ high 4250 ∷ high 4249 ∷ []) ≡ Clear 0
 unfolding stepOne stepWith nextRun rowAt table extremesOf bestOf
 run-ends = refl
 
 -- A run of releasing samples does not go on over the release: the next run of tripping samples starts from none.
-pub run-after-release : alarmBySteps 0 (loaded starred) starredSamples ≡ Clear 0
+pub run-after-release : alarmBySteps 0 (loaded starredLimits) starredSamples ≡ Clear 0
 unfolding stepOne stepWith nextRun rowAt table extremesOf bestOf
 run-after-release = refl
+
+-- The same from the history, with the runs: after two samples, six, seven, eight and all ten.
+abbrev alarmSaid : List Sample → Alarm
+alarmSaid h = protectionOf (rowAt 0) starredLimits h .alarm
+
+pub alarms-history
+    : (alarmSaid (high 4250 ∷ high 4250 ∷ [])
+    ∷ alarmSaid (high 4250 ∷ high 4250 ∷ high 4250 ∷ high 4249 ∷ high 4250 ∷ high 4250 ∷ [])
+    ∷ alarmSaid (high 4150 ∷ high 4250 ∷ high 4250 ∷ high 4250 ∷ high 4249 ∷ high 4250 ∷ high 4250 ∷ [])
+    ∷ alarmSaid (high 4151 ∷ high 4150 ∷ high 4250 ∷ high 4250 ∷ high 4250 ∷ high 4249 ∷ high 4250 ∷ high 4250 ∷ [])
+    ∷ alarmSaid (reverse starredSamples) ∷ [])
+    ≡ (Clear 2 ∷ Raised 0 ∷ Raised 1 ∷ Raised 0 ∷ Clear 0 ∷ [])
+unfolding protectionOf rowAt table measure extremesOf bestOf
+alarms-history = refl
 
 -- ---- currents are signed, to both ends of 16 bits
 

@@ -1,4 +1,4 @@
--- To be believed: the run rule from the history (`raised`, `alarmOf`). Then the same by counting, and that the two agree.
+-- To be believed: the run rule from the history (`ruleRaisedAfter`, `alarmOf`). Then the same by counting, and that the two agree.
 pub mod Runs
 -- To be believed: each protection and all of them from the page's limits and the history. Then the step of the code, and that it leads from what
 -- a history says to what the longer history says.

@@ -7,7 +7,7 @@ use mathlib.Core.List.{List, [], _∷_}
 use Prim.Native.Nat.{ℕ, suc, _≤_, _<_}
 use native.Mathlib.Omega.{arith}
 use lib.Dec.{leb}
-use borrow.Author.Tests.{lt-leb, leb-false, not-true}
+use borrow.Author.Tests.{lt-leb, le-leb, leb-false, not-true}
 use Rattle.laws.specs.Tests.{by-test, clash}
 use Rattle.laws.specs.Latest.{nextRun, run-goes-on, lastAll, run, lastAll-run}
 use Rattle.guard.specs.declared.rule.Alarm.{Alarm}
@@ -35,45 +35,58 @@ abbrev pub nextAlarm : ℕ → ℕ → Bool → Bool → Alarm → Alarm
 nextAlarm N M trip qualify (Clear run) = cond (leb N (nextRun trip run)) (Raised 0) (Clear (nextRun trip run))
 nextAlarm N M trip qualify (Raised run) = cond (leb M (nextRun qualify run)) (Clear 0) (Raised (nextRun qualify run))
 
+-- What the four branches of the code come to: r is the run with this sample.
+pub clear-reached : (N M run r : ℕ) (trip qualify : Bool) → r ≡ nextRun trip run → N ≤ r → nextAlarm N M trip qualify (Clear run) ≡ Raised 0
+clear-reached N M run r trip qualify e h = rw (← e, le-leb N r h)
+
+pub clear-short : (N M run r : ℕ) (trip qualify : Bool) → r ≡ nextRun trip run → r < N → nextAlarm N M trip qualify (Clear run) ≡ Clear r
+clear-short N M run r trip qualify e h = rw (← e, lt-leb N r h)
+
+pub raised-reached : (N M run r : ℕ) (trip qualify : Bool) → r ≡ nextRun qualify run → M ≤ r → nextAlarm N M trip qualify (Raised run) ≡ Clear 0
+raised-reached N M run r trip qualify e h = rw (← e, le-leb M r h)
+
+pub raised-short : (N M run r : ℕ) (trip qualify : Bool) → r ≡ nextRun qualify run → r < M → nextAlarm N M trip qualify (Raised run) ≡ Raised r
+raised-short N M run r trip qualify e h = rw (← e, lt-leb M r h)
+
 module _ {S : Type 0} (N M : ℕ) (trips qualifies : S → Bool) where
   -- "Clear: it is raised at a sample if the last N accepted samples, this one included, all trip. Raised: it is released
   -- if the last M accepted samples all meet the release condition. Only samples since the load count."
-  abbrev pub raised : List S → Bool
-  raised [] = false
-  raised (s ∷ h) = cond (raised h) (not (lastAll M qualifies (s ∷ h))) (lastAll N trips (s ∷ h))
+  abbrev pub ruleRaisedAfter : List S → Bool
+  ruleRaisedAfter [] = false
+  ruleRaisedAfter (s ∷ h) = cond (ruleRaisedAfter h) (not (lastAll M qualifies (s ∷ h))) (lastAll N trips (s ∷ h))
 
   -- "Each protection is either clear, with its run of tripping samples, or raised, with its run of releasing samples."
   abbrev pub alarmOf : List S → Alarm
-  alarmOf h = cond (raised h) (Raised (run qualifies h)) (Clear (run trips h))
+  alarmOf h = cond (ruleRaisedAfter h) (Raised (run qualifies h)) (Clear (run trips h))
 
   -- A history stepped sample by sample from the load.
   abbrev pub alarmAfter : List S → Alarm
   alarmAfter [] = Clear 0
   alarmAfter (s ∷ h) = nextAlarm N M (trips s) (qualifies s) (alarmAfter h)
 
-  pub alarm-raised : (h : List S) → isRaised (alarmOf h) ≡ raised h
-  alarm-raised h = by-test (raised h) (λ e. rw e) (λ e. rw e)
+  pub alarm-raised : (h : List S) → isRaised (alarmOf h) ≡ ruleRaisedAfter h
+  alarm-raised h = by-test (ruleRaisedAfter h) (λ e. rw e) (λ e. rw e)
 
   alarm-none : (h : List S) → run trips h ≡ 0 → run qualifies h ≡ 0 → runOf (alarmOf h) ≡ 0
-  alarm-none h t q = by-test (raised h) (λ e. rw e q) (λ e. rw e t)
+  alarm-none h t q = by-test (ruleRaisedAfter h) (λ e. rw e q) (λ e. rw e t)
 
   module _ (n-least : 1 ≤ N) (n-most : N ≤ 255) (m-least : 1 ≤ M) (m-most : M ≤ 255) (never : (s : S) → trips s ≡ true → qualifies s ≡ false) where
     never′ : (s : S) → qualifies s ≡ true → trips s ≡ false
     never′ s q = by-test (trips s) (λ t. clash q (never s t)) (λ t. t)
 
-    clear-within : (h : List S) → raised h ≡ false → run trips h < N
+    clear-within : (h : List S) → ruleRaisedAfter h ≡ false → run trips h < N
     clear-within [] e = n-least
     clear-within (s ∷ h) e =
-        by-test (raised h)
+        by-test (ruleRaisedAfter h)
         (λ u. by-test (qualifies s)
         (λ q. rw (never′ s q) n-least)
         (λ q. absurd (true≢false (rw (u, lastAll-run, q, lt-leb M 0 m-least) at e))))
         (λ u. leb-false N (run trips (s ∷ h)) (sym (lastAll-run N trips (s ∷ h)) ∙ rw u at e))
 
-    raised-within : (h : List S) → raised h ≡ true → run qualifies h < M
+    raised-within : (h : List S) → ruleRaisedAfter h ≡ true → run qualifies h < M
     raised-within [] e = absurd (true≢false (sym e))
     raised-within (s ∷ h) e =
-        by-test (raised h)
+        by-test (ruleRaisedAfter h)
         (λ u. leb-false M (run qualifies (s ∷ h)) (sym (lastAll-run M qualifies (s ∷ h)) ∙ not-true (lastAll M qualifies (s ∷ h)) (rw u at e)))
         (λ u. by-test (trips s)
         (λ t. rw (never s t) m-least)
@@ -82,7 +95,7 @@ module _ {S : Type 0} (N M : ℕ) (trips qualifies : S → Bool) where
     -- THE RUN RULE: one step on from what a history says is what the longer history says.
     pub alarm-step : (s : S) (h : List S) → nextAlarm N M (trips s) (qualifies s) (alarmOf h) ≡ alarmOf (s ∷ h)
     alarm-step s h =
-        by-test (raised h)
+        by-test (ruleRaisedAfter h)
         (λ e. let w = raised-within h e in rw (e, run-goes-on (qualifies s) (run qualifies h) (omega arith), lastAll-run) (by-test (qualifies s)
         (λ q. rw q (by-test (leb M (suc (run qualifies h))) (λ u. rw (u, never′ s q)) (λ u. rw u)))
         (λ q. rw (q, lt-leb M 0 m-least))))
@@ -97,15 +110,15 @@ module _ {S : Type 0} (N M : ℕ) (trips qualifies : S → Bool) where
 
     -- No run leaves its type, however long the history is: it stays below N while clear, below M while raised.
     pub alarm-within : (h : List S) → RunWithin N M (alarmOf h)
-    alarm-within h = by-test (raised h) (λ e. rw e (raised-within h e)) (λ e. rw e (clear-within h e))
+    alarm-within h = by-test (ruleRaisedAfter h) (λ e. rw e (raised-within h e)) (λ e. rw e (clear-within h e))
 
     -- A sample that neither trips nor qualifies ends both runs, and neither raises nor releases.
     pub neither-ends : (s : S) (h : List S) → trips s ≡ false → qualifies s ≡ false
-        → (raised (s ∷ h) ≡ raised h) × (runOf (alarmOf (s ∷ h)) ≡ 0)
+        → (ruleRaisedAfter (s ∷ h) ≡ ruleRaisedAfter h) × (runOf (alarmOf (s ∷ h)) ≡ 0)
     neither-ends s h t q = (stays, alarm-none (s ∷ h) (rw t) (rw q))
       where
-        stays : raised (s ∷ h) ≡ raised h
+        stays : ruleRaisedAfter (s ∷ h) ≡ ruleRaisedAfter h
         stays =
-            by-test (raised h)
+            by-test (ruleRaisedAfter h)
             (λ u. rw (u, lastAll-run, q, lt-leb M 0 m-least))
             (λ u. rw (u, lastAll-run, t, lt-leb N 0 n-least))

@@ -33,7 +33,7 @@ noProtection = record { limits = noLimits; alarm = Clear 0 }
 
 -- Whether the protection of this row and these limits is raised after a history.
 unfoldable pub raised : Row → Limits → List Sample → Bool
-raised row l = runs.raised (l .n) (l .m) (trips row l) (qualifies row l)
+raised row l = runs.ruleRaisedAfter (l .n) (l .m) (trips row l) (qualifies row l)
 
 -- A clear protection is raised at a sample exactly if its last N all trip, this one included.
 pub raised-when : (row : Row) (l : Limits) (s : Sample) (h : List Sample) → raised row l h ≡ false

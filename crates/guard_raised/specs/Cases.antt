@@ -50,12 +50,12 @@ said w a c d = record { word = w; any = a; charge = c; discharge = d }
 abbrev fromPage : List Sample → Said
 fromPage h = said (raisedWord page h) (someRaised page h) (blocked page h 0) (blocked page h 1)
 
--- The fifth has the protection of mask 0 alone: it is raised and blocks no switch.
+-- The fifth has the protection of mask 0 alone: it is raised and blocks no switch. The last has two of mask 3.
 pub words-history
     : (fromPage [] ∷ fromPage (seen 4260 (pos 0) 2980 ∷ []) ∷ fromPage (seen 4260 (pos 0) 2980 ∷ seen 4260 (pos 0) 2980 ∷ [])
     ∷ fromPage (seen 4000 (pos 0) 3330 ∷ []) ∷ fromPage (seen 4000 (pos 900) 2980 ∷ [])
-    ∷ fromPage (seen 4260 (pos 900) 3330 ∷ seen 4250 (pos 0) 2980 ∷ []) ∷ [])
-    ≡ (said 0 false false false ∷ said 0 false false false ∷ said 1 true true false ∷ said 128 true false true ∷ said 4 true false false ∷ said 133 true true true ∷ [])
+    ∷ fromPage (seen 4260 (pos 900) 3330 ∷ seen 4250 (pos 0) 2980 ∷ []) ∷ fromPage (seen 4000 (minus 32768) 2980 ∷ []) ∷ [])
+    ≡ (said 0 false false false ∷ said 0 false false false ∷ said 1 true true false ∷ said 128 true false true ∷ said 4 true false false ∷ said 133 true true true ∷ said 24 true true true ∷ [])
 unfolding raisedWord someRaised blocked bitsOf anyOf withBitIf withBit hasBit raised rowAt table measure extremesOf bestOf
 words-history = refl
 
@@ -66,8 +66,9 @@ fromArray ps = said (raisedBits ps) (anyRaised ps) (blocksAny 0 ps) (blocksAny 1
 pub words-steps
     : (fromArray (protectionsAfter page []) ∷ fromArray (protectionsAfter page (seen 4000 (pos 0) 3330 ∷ []))
     ∷ fromArray (protectionsAfter page (seen 4000 (pos 900) 2980 ∷ []))
-    ∷ fromArray (protectionsAfter page (seen 4260 (pos 900) 3330 ∷ seen 4250 (pos 0) 2980 ∷ [])) ∷ [])
-    ≡ (said 0 false false false ∷ said 128 true false true ∷ said 4 true false false ∷ said 133 true true true ∷ [])
+    ∷ fromArray (protectionsAfter page (seen 4260 (pos 900) 3330 ∷ seen 4250 (pos 0) 2980 ∷ []))
+    ∷ fromArray (protectionsAfter page (seen 4000 (minus 32768) 2980 ∷ [])) ∷ [])
+    ≡ (said 0 false false false ∷ said 128 true false true ∷ said 4 true false false ∷ said 133 true true true ∷ said 24 true true true ∷ [])
 unfolding raisedBits anyRaised blocksAny blocksOne bitsOf anyOf withBitIf withBit hasBit stepAllWith stepWith stepOne nextRun eachTo protectionsOf
     protectionOf listOf listFrom rowAt table extremesOf bestOf
 words-steps = refl

@@ -54,6 +54,19 @@ blocksOne switch p = isRaised (p .alarm) && hasBit (p .limits .mask) switch
 unfoldable pub blocksAny : ℕ → List Protection → Bool
 blocksAny switch ps = anyOf (λ p. blocksOne switch (getD ps p noProtection)) protections
 
+-- ---- what the words say
+
+module _ (ls : List Limits) (h : List Sample) where
+  -- Bit p of the word is set exactly if protection p is raised.
+  pub raisedWord-has : (p : ℕ) → p < protections → hasBit (raisedWord ls h) p ≡ raisedAfter ls h p
+  unfolding raisedWord
+  raisedWord-has p q = bits-has (raisedAfter ls h) protections p (omega arith) q
+
+  -- No protection is raised exactly if the word is 0.
+  pub someRaised-word : someRaised ls h ≡ not (eqb (raisedWord ls h) 0)
+  unfolding someRaised raisedWord
+  someRaised-word = any-bits (raisedAfter ls h) protections (omega arith)
+
 -- ---- the array that stands for a history says what the history says
 
 module _ (ls : List Limits) (h : List Sample) where
@@ -79,13 +92,3 @@ module _ (ls : List Limits) (h : List Sample) where
   blocksAny-is switch =
       any-same (λ p. blocksOne switch (getD (protectionsOf ls h) p noProtection))
       (λ p. raisedAfter ls h p && hasBit (limitsAt ls p .mask) switch) protections (blocks-at switch)
-
-  -- Bit p of the word is set exactly if protection p is raised.
-  pub raisedWord-has : (p : ℕ) → p < protections → hasBit (raisedWord ls h) p ≡ raisedAfter ls h p
-  unfolding raisedWord
-  raisedWord-has p q = bits-has (raisedAfter ls h) protections p (omega arith) q
-
-  -- No protection is raised exactly if the word is 0.
-  pub someRaised-word : someRaised ls h ≡ not (eqb (raisedWord ls h) 0)
-  unfolding someRaised raisedWord
-  someRaised-word = any-bits (raisedAfter ls h) protections (omega arith)

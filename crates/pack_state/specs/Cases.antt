@@ -1,6 +1,8 @@
--- Computed cases: the tick's last value, and document 01's starred seven samples, with the start cell, who rests and who is bled at each.
+-- Computed cases: the tick's last value; document 01's starred seven samples, with the start cell, who rests and who is bled at each; and a
+-- protection of mask 0 that stops bleeding.
 -- Assumes nothing.
 use mathlib.Core.Path.{_≡_, refl}
+use mathlib.Core.Bool.{true, false}
 use mathlib.Core.List.{List, [], _∷_, map}
 use Prim.Native.Nat.{ℕ}
 use lib.IntN.{pos}
@@ -116,3 +118,37 @@ unfolding acceptedPack freshPack freshBalance nextBalance wantWith wantingWord w
     stepWith stepOne nextRun protectionsOf protectionOf listOf raised rowAt table measure extremesOf bestOf restingWord rested runOf chosenWord
     isCell inWord hasBit withCellIf withBitIf withBit wordTo bitsOf nextCell nextRuns eachTo
 starred-made = refl
+
+-- ---- a protection of mask 0 only reports, and stops all bleeding while it is raised
+
+-- The same page, but over charge current is raised by one sample of 400 mA or more and blocks no switch.
+abbrev reporting : Settings
+reporting =
+    record {
+      rules = page .rules;
+      limits =
+          limited (pos 4250) (pos 4150) 2 3 1
+          ∷ limited (pos 2500) (pos 2600) 2 3 2
+          ∷ limited (pos 400) (pos 100) 1 1 0
+          ∷ limited (minus 5000) (minus 100) 2 3 2
+          ∷ limited (minus 9000) (minus 100) 2 3 3
+          ∷ limited (pos 3180) (pos 3130) 2 3 1
+          ∷ limited (pos 3330) (pos 3280) 2 3 2
+          ∷ limited (pos 3330) (pos 3280) 2 3 3
+          ∷ [];
+    }
+
+-- Who wants and who is bled at one sample at which cell 2 exceeds the others.
+pub mask-zero-said :
+    (wishAt page (charged 4000 4020 4000) [] 2 ∷ wishAt reporting (charged 4000 4020 4000) [] 2 ∷ [] ≡ true ∷ false ∷ [])
+    × (bledAfter page (charged 4000 4020 4000 ∷ []) ∷ bledAfter reporting (charged 4000 4020 4000 ∷ []) ∷ [] ≡ 2 ∷ 0 ∷ [])
+unfolding bledAfter bledWord wishesOf wishAt wishes cellOf wants someRaised anyOf raised rowAt table measure extremesOf bestOf withBit
+mask-zero-said = (refl, refl)
+
+pub mask-zero-made :
+    map (λ (p : Pack). p .balance .bled) (acceptedPack (freshPack page) (charged 4000 4020 4000) ∷ acceptedPack (freshPack reporting) (charged 4000 4020 4000) ∷ [])
+    ≡ 2 ∷ 0 ∷ []
+unfolding acceptedPack freshPack freshBalance nextBalance wantWith wantingWord wishes cellOf wants anyRaised anyOf stepAllWith
+    stepWith stepOne nextRun protectionsOf protectionOf listOf raised rowAt table measure extremesOf bestOf restingWord rested runOf chosenWord
+    isCell inWord hasBit withCellIf withBitIf withBit wordTo bitsOf nextCell nextRuns eachTo
+mask-zero-made = refl

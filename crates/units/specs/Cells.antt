@@ -2,15 +2,21 @@
 -- Assumes nothing.
 use mathlib.Core.Path.{_≡_}
 use mathlib.Core.Bool.{cond}
-use Prim.Native.Nat.{ℕ, _≤_}
+use Prim.Native.Nat.{ℕ, _≤_, _<_}
 use native.Mathlib.Omega.{arith}
 use lib.Dec.{ltb}
-use borrow.Author.Tests.{ltb-true, ltb-false}
+use borrow.Author.Tests.{ltb-true, ltb-false, lt-ltb, le-ltb}
 use Rattle.laws.specs.Tests.{by-test}
 
 -- How many entries of an array of ten are cells, if a page or a sample says `count`: a larger number stands for ten.
 abbrev pub lookedAt : ℕ → ℕ
 lookedAt count = cond (ltb count 10) count 10
+
+pub looked-below : (count : ℕ) → count < 10 → lookedAt count ≡ count
+looked-below count h = rw (lt-ltb count 10 h)
+
+pub looked-over : (count : ℕ) → 10 ≤ count → lookedAt count ≡ 10
+looked-over count h = rw (le-ltb count 10 h)
 
 pub looked-most : (count : ℕ) → lookedAt count ≤ 10
 looked-most count = by-test (ltb count 10) (λ e. rw e (let h = ltb-true count 10 e in omega arith)) (λ e. rw e (omega arith))

@@ -94,7 +94,7 @@ module _ (n K R : ℕ) where
   unfolding runsOf
   runs-length ws = up-length 1 10 (λ k. run (has k) (bleds n K R ws))
 
-  -- Resting by the counter is "bled at each of the R accepted samples just before".
+  -- The run of a cell has reached R exactly if the cell rests by the history.
   pub rested-is : (ws : List (ℕ → Bool)) (k : ℕ) → 1 ≤ k → k ≤ 10 → rested R (runsOf n K R ws) k ≡ resting R (bleds n K R ws) k
   unfolding rested runOf
   rested-is ws k a b =
@@ -148,7 +148,7 @@ module _ (n K R : ℕ) where
       ∙ runs-none (runsOf n K R ws) (runs-length ws)
 
   module _ (some : 1 ≤ n) (ten : n ≤ 10) (limited : 1 ≤ R) (short : R < 255) (ws : List (ℕ → Bool)) where
-    -- Who rests by what was kept is who rests by the history: "bled at each of the R accepted samples just before".
+    -- Who rests by what was kept, `restingWord`, is who rests by the history, `resting`.
     pub resting-is : restingWord n R (bledWord n K R ws) (runsOf n K R ws) ≡ wordTo n (resting R (bleds n K R ws))
     unfolding restingWord
     resting-is =

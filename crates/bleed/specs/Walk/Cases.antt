@@ -9,16 +9,18 @@ use Prim.Native.Nat.{ℕ, zero, suc, _+_, _-_, _≤_, _<_}
 use native.Mathlib.Nat.{eq-or-lt-of-le}
 use native.Mathlib.Omega.{arith}
 use lib.Dec.{eqb}
+use lib.Count.{ones, onesIn}
 use lib.ListN.{take, replicate}
 use borrow.Author.Tests.{eqb-true}
 use Rattle.laws.specs.Tests.{and-left, and-right}
-use Rattle.laws.specs.Bits.{hasBit, withBit}
+use Rattle.laws.specs.Bits.{hasBit, withBit, withBitIf}
 use Rattle.laws.specs.Latest.{lastAll, among}
+use Rattle.bleed.specs.Resting.Steps.{nextCell}
 use Rattle.bleed.specs.Walk.Walk.{has, upFrom}
 use Rattle.bleed.specs.Walk.History.{wantsCell, bleds}
 use Rattle.bleed_wants.specs.Word.{inWord}
-use Rattle.bleed.specs.Walk.Word.{wordOf}
-use Rattle.bleed.specs.Walk.Steps.{isCell, chosenWord}
+use Rattle.bleed.specs.Walk.Word.{withCellIf, wordOf}
+use Rattle.bleed.specs.Walk.Steps.{isCell, chosenWord, besideTaken, mayTake, takeOne, takeFrom}
 use Rattle.bleed.specs.Walk.Balance.{runsOf, bledWord}
 
 -- The cells that want at each sample, in the order of time, as a history of wishes.
@@ -32,10 +34,10 @@ bled n K R ls = reverse (bleds n K R (history ls))
 -- ---- the worked samples
 
 -- n 3, K 1, R 1: none want at samples 1 and 2.
-abbrev pub starred : List (List ℕ)
-starred = [] ∷ [] ∷ (1 ∷ 2 ∷ []) ∷ (1 ∷ 3 ∷ []) ∷ (1 ∷ 2 ∷ []) ∷ (1 ∷ 3 ∷ []) ∷ (1 ∷ 2 ∷ []) ∷ []
+abbrev pub starredWishes : List (List ℕ)
+starredWishes = [] ∷ [] ∷ (1 ∷ 2 ∷ []) ∷ (1 ∷ 3 ∷ []) ∷ (1 ∷ 2 ∷ []) ∷ (1 ∷ 3 ∷ []) ∷ (1 ∷ 2 ∷ []) ∷ []
 
-pub starred-walk : bled 3 1 1 starred ≡ [] ∷ [] ∷ (1 ∷ []) ∷ (3 ∷ []) ∷ (2 ∷ []) ∷ (3 ∷ []) ∷ (1 ∷ []) ∷ []
+pub starred-walk : bled 3 1 1 starredWishes ≡ [] ∷ [] ∷ (1 ∷ []) ∷ (3 ∷ []) ∷ (2 ∷ []) ∷ (3 ∷ []) ∷ (1 ∷ []) ∷ []
 starred-walk = refl
 
 -- R 1, one cell always wanting, no others.
@@ -44,21 +46,11 @@ every-second = refl
 
 -- ---- the slips
 
--- A resting cell does not shut out its neighbour: at the second sample cell 2 is walked over first, and rests.
-resting-blocks-nobody : bled 3 2 1 ((2 ∷ []) ∷ (2 ∷ 3 ∷ []) ∷ []) ≡ (2 ∷ []) ∷ (3 ∷ []) ∷ []
-resting-blocks-nobody = refl
-
--- The start cell moves though nothing was bled, and from n to 1.
-start-moves : bled 2 1 4 ([] ∷ (1 ∷ 2 ∷ []) ∷ (1 ∷ 2 ∷ []) ∷ []) ≡ [] ∷ (2 ∷ []) ∷ (1 ∷ []) ∷ []
-start-moves = refl
-
+-- The start cell goes from n to 1.
 start-wraps : bled 3 1 4 (replicate 4 (1 ∷ 2 ∷ 3 ∷ [])) ≡ (1 ∷ []) ∷ (2 ∷ []) ∷ (3 ∷ []) ∷ (1 ∷ []) ∷ []
 start-wraps = refl
 
--- Cells 1 and n are no neighbours, unless n is 2.
-no-ring : bled 10 2 4 ((1 ∷ 10 ∷ []) ∷ []) ≡ (10 ∷ 1 ∷ []) ∷ []
-no-ring = refl
-
+-- Cells 1 and n are neighbours if n is 2.
 two-cells : bled 2 2 4 ((1 ∷ 2 ∷ []) ∷ []) ≡ (1 ∷ []) ∷ []
 two-cells = refl
 
@@ -95,6 +87,23 @@ words-chosen :
 unfolding chosenWord isCell inWord hasBit withBit
 words-chosen = refl
 
+-- One cell of the code's walk: beside cell 2 stand cells 1 and 3, beside cell 1 cell 2 alone.
+cells-beside : map (besideTaken 2) (1 ∷ 2 ∷ 3 ∷ 4 ∷ []) ∷ map (besideTaken 1) (1 ∷ 2 ∷ 3 ∷ []) ∷ [] ≡ (true ∷ false ∷ true ∷ false ∷ []) ∷ (false ∷ true ∷ false ∷ []) ∷ []
+unfolding besideTaken hasBit
+cells-beside = refl
+
+-- It is taken; it rests; so does cell 3; another rests; its neighbour is taken; K are taken; one less is; it does not want.
+one-taken :
+    takeOne 1 7 0 0 2 ∷ takeOne 1 7 2 0 2 ∷ takeOne 1 7 4 0 3 ∷ takeOne 1 7 4 0 2 ∷ takeOne 2 7 0 1 2 ∷ takeOne 1 7 0 4 1 ∷ takeOne 2 7 0 4 1 ∷ takeOne 2 5 0 0 2 ∷ []
+    ≡ 2 ∷ 0 ∷ 0 ∷ 2 ∷ 1 ∷ 4 ∷ 5 ∷ 0 ∷ []
+unfolding takeOne mayTake besideTaken inWord hasBit withCellIf withBitIf withBit ones onesIn
+one-taken = refl
+
+-- Three cells in a row, from cell 2 and from cell 3 on.
+all-taken : takeFrom 3 3 1 7 0 2 0 ∷ takeFrom 3 3 2 7 0 3 0 ∷ takeFrom 1 3 2 7 0 3 0 ∷ [] ≡ 2 ∷ 5 ∷ 4 ∷ []
+unfolding takeFrom takeOne mayTake besideTaken inWord hasBit withCellIf withBitIf withBit nextCell ones onesIn
+all-taken = refl
+
 -- Cell 1 is bit 0, cell 10 is bit 9.
 ends-of-a-word : wordOf (1 ∷ 10 ∷ []) ≡ 0x201
 unfolding withBit
@@ -123,7 +132,7 @@ all p (k ∷ l) = p k && all p l
 
 -- The worked sample up to its sixth, the two cells, and a history for each n from 2 to 10.
 all-starve :
-    starves 3 1 1 (history (take 6 starred)) && starves 2 1 2 (history both) && all (λ n. starves n 1 1 (waiting n)) (upFrom 2 9) ≡ true
+    starves 3 1 1 (history (take 6 starredWishes)) && starves 2 1 2 (history both) && all (λ n. starves n 1 1 (waiting n)) (upFrom 2 9) ≡ true
 all-starve = refl
 
 all-at : (p : ℕ → Bool) (a m k : ℕ) → all p (upFrom a m) ≡ true → a ≤ k → k < a + m → p k ≡ true

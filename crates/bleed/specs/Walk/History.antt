@@ -1,7 +1,8 @@
 -- Which cells are bled at each sample of a history. Of an accepted sample only counts which cells want bleeding: a history of
 -- wishes is a list of these since the load, the latest first, and what is said of it holds for any page, samples and protections.
 -- Assumes nothing.
-use mathlib.Core.Bool.{Bool}
+use mathlib.Core.Path.{_≡_, refl}
+use mathlib.Core.Bool.{Bool, true, false}
 use mathlib.Core.List.{List, [], _∷_}
 use Prim.Native.Nat.{ℕ, suc, _%_}
 use lib.ListN.{length}
@@ -26,3 +27,7 @@ startCell n count = suc (count % n)
 abbrev pub bleds : ℕ → ℕ → ℕ → List (ℕ → Bool) → List (List ℕ)
 bleds n K R [] = []
 bleds n K R (w ∷ ws) = chosen n K w (resting R (bleds n K R ws)) (startCell n (length ws)) ∷ bleds n K R ws
+
+-- The start cell moves though nothing was bled: cell 2 is the first to be asked at the second sample, cell 1 at the third.
+start-moves : bleds 2 1 4 ((λ k. true) ∷ (λ k. true) ∷ (λ k. false) ∷ []) ≡ (1 ∷ []) ∷ (2 ∷ []) ∷ [] ∷ []
+start-moves = refl

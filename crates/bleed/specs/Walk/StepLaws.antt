@@ -12,7 +12,7 @@ use lib.Dec.{leb, ltb, eqb}
 use lib.Count.{ones, onesIn}
 use lib.ListN.{length, length-append}
 use borrow.Author.Tests.{lt-ltb, le-ltb, ltb-true, ltb-false, le-leb, leb-true, eq-eqb, ne-eqb, eqb-true}
-use Rattle.laws.specs.Tests.{by-test, clash, test-ext, and-left, and-right, or-left, or-right, or-cases}
+use Rattle.laws.specs.Tests.{by-test, by-order, clash, test-ext, and-left, and-right, or-left, or-right, or-cases}
 use Rattle.laws.specs.Bits.{hasBit, withBitIf, has-zero}
 use Rattle.bleed_wants.specs.Word.{inWord, in-none}
 use Rattle.bleed.specs.Resting.Steps.{nextCell}
@@ -112,6 +112,34 @@ beside-is t k s =
     let before : suc (k - 2) ≡ v .0 = let e = v .1 in omega arith in
     or-left (ltb 1 k && has (suc (k - 2)) t) (has (suc k) t) (rw (lt-ltb 1 k (let e = v .1 in omega arith), before) (v .2)))
     (neighbour-cases k t u)))
+
+-- What the branches of the code come to.
+
+pub beside-before : (taken k : ℕ) → 1 < k → hasBit taken (k - 2) ≡ true → besideTaken taken k ≡ true
+unfolding besideTaken
+beside-before taken k h t = rw (lt-ltb 1 k h, t)
+
+pub beside-after : (taken k : ℕ) → (1 < k → hasBit taken (k - 2) ≡ false) → besideTaken taken k ≡ hasBit taken k
+unfolding besideTaken
+beside-after taken k h = by-order 1 k (λ q. rw (lt-ltb 1 k q, h q)) (λ q. rw (le-ltb 1 k q))
+
+pub may-unwilling : (K want rest taken k : ℕ) → inWord want k ≡ false → mayTake K want rest taken k ≡ false
+unfolding mayTake
+may-unwilling K want rest taken k w = rw w
+
+pub may-resting : (K want rest taken k : ℕ) → inWord want k ≡ true → inWord rest k ≡ true → mayTake K want rest taken k ≡ false
+unfolding mayTake
+may-resting K want rest taken k w r = rw (w, r)
+
+pub may-beside : (K want rest taken k : ℕ) → inWord want k ≡ true → inWord rest k ≡ false → besideTaken taken k ≡ true
+    → mayTake K want rest taken k ≡ false
+unfolding mayTake
+may-beside K want rest taken k w r b = rw (w, r, b)
+
+pub may-few : (K want rest taken k : ℕ) → inWord want k ≡ true → inWord rest k ≡ false → besideTaken taken k ≡ false
+    → mayTake K want rest taken k ≡ ltb (ones taken) K
+unfolding mayTake
+may-few K want rest taken k w r b = rw (w, r, b)
 
 -- What is known of the taken cells, with one more or not.
 

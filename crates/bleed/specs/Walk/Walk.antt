@@ -1,6 +1,7 @@
 -- Which cells are bled at one sample (document 01, "Bleeding"). Cells are numbered from 1; a set of cells is a list of numbers.
 -- Assumes nothing.
-use mathlib.Core.Bool.{Bool, false, not, cond, _&&_, _||_}
+use mathlib.Core.Path.{_≡_, refl}
+use mathlib.Core.Bool.{Bool, true, false, not, cond, _&&_, _||_}
 use mathlib.Core.List.{List, [], _∷_, _++_}
 use Prim.Native.Nat.{ℕ, zero, suc, _-_}
 use lib.Dec.{ltb, eqb}
@@ -14,6 +15,9 @@ has k (d ∷ l) = eqb k d || has k l
 -- "Cells k and k + 1 are neighbours; 1 and n are not unless n = 2."
 abbrev pub neighbours : ℕ → ℕ → Bool
 neighbours k d = eqb (suc k) d || eqb (suc d) k
+
+no-ring : neighbours 1 2 ∷ neighbours 2 1 ∷ neighbours 1 10 ∷ neighbours 10 1 ∷ neighbours 3 3 ∷ [] ≡ true ∷ true ∷ false ∷ false ∷ false ∷ []
+no-ring = refl
 
 -- A neighbour of cell k is in the set.
 abbrev pub hasNeighbour : ℕ → List ℕ → Bool
@@ -41,3 +45,7 @@ walk K wants rests (k ∷ cells) taken = walk K wants rests cells (cond (takes K
 -- The cells bled at a sample: those that the walk takes.
 abbrev pub chosen : ℕ → ℕ → (ℕ → Bool) → (ℕ → Bool) → ℕ → List ℕ
 chosen n K wants rests start = walk K wants rests (order n start) []
+
+-- A resting cell does not shut out its neighbour: cell 2 is walked over first, and rests.
+resting-blocks-nobody : chosen 3 2 (λ k. has k (2 ∷ 3 ∷ [])) (λ k. eqb k 2) 2 ≡ 3 ∷ []
+resting-blocks-nobody = refl

@@ -1,5 +1,9 @@
 -- `bleed_wants::wants_one` meets its contract: a cell below the floor ends it, and the difference is the answer. Assumes nothing.
+use mathlib.Core.Path.{sym, ap}
+use mathlib.Core.Bool.{Bool, _&&_}
+use Prim.Native.Nat.{_+_}
 use native.Mathlib.Omega.{arith}
+use lib.Dec.{ltb}
 use borrow.Author.Needs.{needs}
 use borrow.Author.Tests.{lt-leb, le-leb}
 use Rattle.bleed_wants.specs.Wants.{wants}
@@ -8,7 +12,9 @@ use Rattle.bleed_wants.proofs.wants_one.Tie as tie
 
 returns : tie.Need-returns
 unfolding wants
-returns c = let a = c .before .before .before .args in rw (lt-leb (a .floor .0) (a .cell .0) (omega arith))
+returns c =
+    let a = c .before .before .before .args in
+    sym (ap (λ (b : Bool). b && ltb (a .lowest .0 + a .difference .0) (a .cell .0)) (lt-leb (a .floor .0) (a .cell .0) (omega arith)))
 
 cast-result : tie.Need-cast-result
 cast-result c = search needs
@@ -26,7 +32,7 @@ returns-2 : tie.Need-returns-2
 unfolding wants
 returns-2 c =
     let a = c .before .before .before .before .before .before .args in
-    rw (le-leb (a .floor .0) (a .cell .0) (omega arith))
+    sym (ap (λ (b : Bool). b && ltb (a .lowest .0 + a .difference .0) (a .cell .0)) (le-leb (a .floor .0) (a .cell .0) (omega arith)))
 
 pub wants-one-spec : {M : Type 1} → statement M
 wants-one-spec = tie.close (tie.spec returns cast-result cast-result-2 add-result cast-result-3 returns-2)

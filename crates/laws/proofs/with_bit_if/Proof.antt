@@ -1,5 +1,6 @@
 -- `laws::with_bit_if` meets its contract: past the width there is no bit to set. Assumes nothing.
-use mathlib.Core.Path.{sym}
+use mathlib.Core.Path.{sym, ap}
+use lib.Bits.{bitOr}
 use native.Mathlib.Omega.{arith}
 use borrow.Author.Needs.{needs}
 use Rattle.laws.specs.Bits.{withBit, withBitIf, shifted-one, with-past}
@@ -11,7 +12,7 @@ shl-result c = search needs
 
 returns : tie.Need-returns
 unfolding withBitIf withBit
-returns c = rw (c .before .if1 .taken, shifted-one)
+returns c = rw (c .before .if1 .taken) (ap (bitOr (c .before .before .args .w)) (shifted-one (c .before .before .args .i)))
 
 returns-2 : tie.Need-returns-2
 unfolding withBitIf

@@ -1,13 +1,14 @@
 -- `units::looked_at` meets its contract. Assumes nothing.
-use borrow.Author.Tests.{lt-ltb, le-ltb}
+use mathlib.Core.Path.{sym}
+use Rattle.units.specs.Cells.{looked-below, looked-over}
 use Rattle.units.proofs.looked_at.Statement.{statement}
 use Rattle.units.proofs.looked_at.Tie as tie
 
 returns : tie.Need-returns
-returns c = rw (lt-ltb _ _ (c .if1 .taken))
+returns c = sym (looked-below _ (c .if1 .taken))
 
 returns-2 : tie.Need-returns-2
-returns-2 c = rw (le-ltb _ _ (c .if1 .left))
+returns-2 c = sym (looked-over _ (c .if1 .left))
 
 pub looked-at-spec : {M : Type 1} → statement M
 looked-at-spec = tie.close (tie.spec returns returns-2)

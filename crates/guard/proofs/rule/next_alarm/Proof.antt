@@ -1,5 +1,6 @@
 -- `guard::rule::next_alarm` meets its contract. Assumes nothing.
-use borrow.Author.Tests.{le-leb, lt-leb}
+use mathlib.Core.Path.{sym}
+use Rattle.guard.specs.Runs.{clear-reached, clear-short, raised-reached, raised-short}
 use borrow.Author.Needs.{needs}
 use Rattle.guard.proofs.rule.next_alarm.Statement.{statement}
 use Rattle.guard.proofs.rule.next_alarm.Tie as tie
@@ -17,16 +18,16 @@ next-run-requires-2 : tie.Need-next-run-requires-2
 next-run-requires-2 c κs = search needs
 
 returns : tie.Need-returns
-returns c = rw (c .before .before .before .a .given .1, ← c .before .next-run .ensures, le-leb _ _ (c .if1 .taken))
+returns c = let a = c .before .before .before .before .before .args in rw (c .before .before .before .a .given .1) (sym (clear-reached (a .n) (a .m) _ _ (a .trips) (a .qualifies) (c .before .next-run .ensures) (c .if1 .taken)))
 
 returns-2 : tie.Need-returns-2
-returns-2 c = rw (c .before .before .before .a .given .1, ← c .before .next-run .ensures, lt-leb _ _ (c .if1 .left))
+returns-2 c = let a = c .before .before .before .before .before .args in rw (c .before .before .before .a .given .1) (sym (clear-short (a .n) (a .m) _ _ (a .trips) (a .qualifies) (c .before .next-run .ensures) (c .if1 .left)))
 
 returns-3 : tie.Need-returns-3
-returns-3 c = rw (c .before .before .before .a2 .given .1, ← c .before .next-run2 .ensures, le-leb _ _ (c .if2 .taken))
+returns-3 c = let a = c .before .before .before .before .before .args in rw (c .before .before .before .a2 .given .1) (sym (raised-reached (a .n) (a .m) _ _ (a .trips) (a .qualifies) (c .before .next-run2 .ensures) (c .if2 .taken)))
 
 returns-4 : tie.Need-returns-4
-returns-4 c = rw (c .before .before .before .a2 .given .1, ← c .before .next-run2 .ensures, lt-leb _ _ (c .if2 .left))
+returns-4 c = let a = c .before .before .before .before .before .args in rw (c .before .before .before .a2 .given .1) (sym (raised-short (a .n) (a .m) _ _ (a .trips) (a .qualifies) (c .before .next-run2 .ensures) (c .if2 .left)))
 
 pub next-alarm-spec : {M : Type 1} → statement M
 next-alarm-spec =
