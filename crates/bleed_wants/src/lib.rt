@@ -30,8 +30,8 @@ fn wants_one(
     (lowest.0 as u32) + (difference.0 as u32) < cell.0 as u32
 }
 
-// The cells that want bleeding, of cells 1 to n: bit k - 1 for cell k.
-pub fn wanting(
+// The word of the cells that want bleeding, of cells 1 to n: bit k - 1 for cell k.
+pub fn wanting_word(
     n: u8,
     charging: bool,
     raised: bool,

@@ -91,6 +91,9 @@ bufferAfter page p c b = bytesFor (repliedAfter page p c (length b)) (frameOf c 
 
 -- ---- from the state
 
+abbrev pub refusalsOf : Pack → ℕ → ℕ → List Refusal
+refusalsOf p c room = replyRefusals (p .rules .n) (p .sampled) c room
+
 unfoldable pub answerTo : Pack → ℕ → ℕ → Replied
 answerTo p c room = repliedFor (p .rules .n) (p .sampled) c room
 
@@ -101,10 +104,10 @@ bufferOf p c b = bytesFor (answerTo p c (length b)) (frameOf c (sentWord (saidOf
 
 -- The number and word of an answer are the table's.
 pub answer-given : (p : Pack) (c room : ℕ) (r : Replied) → r ≡ answerTo p c room
-    → (r ≡ answerTo p c room) × (answerOfReply r ≡ given (replyRefusals (p .rules .n) (p .sampled) c room))
+    → (r ≡ answerTo p c room) × (answerOfReply r ≡ given (refusalsOf p c room))
 unfolding answerTo repliedFor replyRefusals
 answer-given p c room r e =
-    (e, ap answerOfReply e ∙ first-map answerOfReply (λ (number word : ℕ). Refused number) Sent (replyRefusals (p .rules .n) (p .sampled) c room))
+    (e, ap answerOfReply e ∙ first-map answerOfReply (λ (number word : ℕ). Refused number) Sent (refusalsOf p c room))
 
 -- Three bytes put into a buffer of three.
 pub three-put : (b : List ℕ) (x y z : ℕ) → length b ≡ 3 → set (set (set b 0 x) 1 y) 2 z ≡ x ∷ y ∷ z ∷ []

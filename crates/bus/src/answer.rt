@@ -1,7 +1,7 @@
 // Whether a command is answered: refusals 12 to 15; and the three bytes of a word.
 ghost use mathlib.Core.Path.{_≡_};
 ghost use Rattle.refusals.specs.Refusals.{given};
-ghost use Rattle.bus.specs.Replies.{answerOfReply, notInTable, cellAbove, replyRefusals, frameOf, answerTo};
+ghost use Rattle.bus.specs.Replies.{answerOfReply, notInTable, cellAbove, frameOf, refusalsOf, answerTo};
 use bus_table::Sends;
 use bus_table::row_of_command;
 use crc::check_byte;
@@ -60,7 +60,7 @@ fn cell_above(n: u8, row: Sends) -> bool
 // Whether a command is answered into a buffer of `room` bytes, or refused with the lowest of 12 to 15 that applies. In a pack without a page
 // n is 0 and there is no sample: each cell command is 13, and of the others 0x41 alone is answered, with mode 0.
 pub fn answer_to(p: Pack, command: u8, room: usize) -> Replied
-    ensures { λ r. ⌜ (r ≡ answerTo p command room) × (answerOfReply r ≡ given (replyRefusals (p .rules .n) (p .sampled) command room)) ⌝ }
+    ensures { λ r. ⌜ (r ≡ answerTo p command room) × (answerOfReply r ≡ given (refusalsOf p command room)) ⌝ }
 {
     let rules = p.rules;
     let row = row_of_command(command);

@@ -3,7 +3,7 @@ ghost use mathlib.Core.Path.{_≡_};
 ghost use lib.ListN.{length};
 ghost use Rattle.pack.specs.Kept.{Kept};
 ghost use Rattle.refusals.specs.Refusals.{given};
-ghost use Rattle.bus.specs.Replies.{answerOfReply, replyRefusals, bytesFor, Fitting, answerTo, bufferOf};
+ghost use Rattle.bus.specs.Replies.{answerOfReply, refusalsOf, bytesFor, Fitting, answerTo, bufferOf};
 use crate::answer::Framed;
 use crate::answer::Replied;
 use crate::answer::answer_to;
@@ -30,7 +30,7 @@ fn put(answer: Replied, f: Framed, out: &mut [u8])
 // Answers a command into the lent buffer: refused with 12 to 15 and the buffer as it was, or its three bytes.
 pub fn reply(p: Pack, command: u8, out: &mut [u8]) -> Replied
     requires { ⌜ Kept p ⌝ }
-    ensures { λ r. ⌜ (r ≡ answerTo p command (length (now (out .entry)))) × (answerOfReply r ≡ given (replyRefusals (p .rules .n) (p .sampled) command (length (now (out .entry))))) ⌝ }
+    ensures { λ r. ⌜ (r ≡ answerTo p command (length (now (out .entry)))) × (answerOfReply r ≡ given (refusalsOf p command (length (now (out .entry))))) ⌝ }
     ensures { λ r. ⌜ now (out .exit) ≡ bufferOf p command (now (out .entry)) ⌝ }
 {
     let answer = answer_to(p, command, out.len());

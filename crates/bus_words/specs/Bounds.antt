@@ -1,7 +1,7 @@
 -- The words fit 16 bits: a pack keeps accepted samples only, of ten cells of 6000 mV at most, and so it is with n × word 7.
 -- Assumes nothing.
 use mathlib.Core.Path.{_≡_, sym, ap}
-use mathlib.Core.Bool.{true, _&&_}
+use mathlib.Core.Bool.{true}
 use mathlib.Core.List.{List, [], _∷_}
 use mathlib.Core.Logic.{⊎-elim}
 use Prim.Native.Nat.{ℕ, zero, suc, _*_, _≤_, _<_}

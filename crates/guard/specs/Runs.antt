@@ -95,10 +95,6 @@ module _ {S : Type 0} (N M : ℕ) (trips qualifies : S → Bool) where
     alarm-is [] = refl
     alarm-is (s ∷ h) = ap (nextAlarm N M (trips s) (qualifies s)) (alarm-is h) ∙ alarm-step s h
 
-    -- It is raised exactly if the history says so.
-    pub raised-is : (h : List S) → isRaised (alarmAfter h) ≡ raised h
-    raised-is h = ap isRaised (alarm-is h) ∙ alarm-raised h
-
     -- No run leaves its type, however long the history is: it stays below N while clear, below M while raised.
     pub alarm-within : (h : List S) → RunWithin N M (alarmOf h)
     alarm-within h = by-test (raised h) (λ e. rw e (raised-within h e)) (λ e. rw e (clear-within h e))

@@ -8,7 +8,7 @@ use native.Mathlib.Omega.{arith}
 use lib.IntN.{ℤ}
 use lib.ListN.{length, getD, set}
 use Rattle.laws.specs.Latest.{lastAll}
-use Rattle.laws.specs.Each.{eachTo, each-next, each-below}
+use Rattle.laws.specs.Each.{eachTo, each-next}
 use Rattle.protections.specs.declared.Direction.{Direction}
 use Rattle.protections.specs.declared.Limits.{Limits}
 use Rattle.protections.specs.declared.Row.{Row}
@@ -96,9 +96,6 @@ clearAt ls p old = clear (limitsAt ls p)
 abbrev pub Within : Protection → Type 0
 Within p = RunWithin (p .limits .n) (p .limits .m) (p .alarm)
 
-abbrev pub AllWithin : List Protection → Type 0
-AllWithin ps = (p : ℕ) → p < protections → Within (getD ps p noProtection)
-
 -- ---- what the loop over the protections needs
 
 -- One more protection at the load.
@@ -163,12 +160,6 @@ protection-limits row l h = refl
 
 -- ---- all protections
 
--- The step of the array is the step of each entry, all of them.
-pub step-all-each : (s : Sample) (ps : List Protection) → length ps ≡ protections → (p : ℕ) → p < protections
-    → getD (stepAll s ps) p noProtection ≡ stepOne (rowAt p .direction) (measure (rowAt p .quantity) s) (getD ps p noProtection)
-unfolding stepAllWith stepWith measure
-step-all-each s ps e p q = each-below noProtection (stepWith (extremesOf (s .cells) (s .count)) s) protections ps p (omega arith) q
-
 module _ (ls : List Limits) where
   pub protections-length : (h : List Sample) → length (protectionsOf ls h) ≡ protections
   unfolding protectionsOf
@@ -195,10 +186,6 @@ module _ (ls : List Limits) (g : AllGood ls) where
       (protectionsOf ls h) (protections-length ls h) (λ p q.
       ap (stepWith (extremesOf (s .cells) (s .count)) s p) (protections-at ls h p q)
       ∙ protection-step (rowAt p) (limitsAt ls p) (g p q) s h)
-
-  -- So the step may be taken after any history.
-  pub protections-within : (h : List Sample) → AllWithin (protectionsOf ls h)
-  protections-within h p q = rw (protections-at ls h p q) (protection-within (rowAt p) (limitsAt ls p) (g p q) h)
 
   -- The load and then every sample of a history, stepped: the array is what the history says, each alarm with its run.
   pub protections-is : (h : List Sample) → protectionsAfter ls h ≡ protectionsOf ls h

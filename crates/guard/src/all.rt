@@ -1,4 +1,4 @@
-// The eight protections together: as a load leaves them, and one sample on.
+// All protections together: as a load leaves them, and one sample on.
 ghost use mathlib.Core.Path.{_≡_};
 ghost use mathlib.Core.List.{[]};
 ghost use Rattle.guard.specs.Steps.{clear, stepWith, stepAllWith, protectionsOf};

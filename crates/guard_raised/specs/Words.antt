@@ -1,13 +1,14 @@
 -- The word of raised protections, and which switches the raised ones block.
 -- Assumes nothing.
 use mathlib.Core.Path.{_≡_, ap₂}
-use mathlib.Core.Bool.{Bool, false, _&&_}
+use mathlib.Core.Bool.{Bool, not, _&&_}
 use mathlib.Core.List.{List}
-use Prim.Native.Nat.{ℕ, _≤_, _<_}
+use Prim.Native.Nat.{ℕ, _<_}
 use native.Mathlib.Omega.{arith}
+use lib.Dec.{eqb}
 use lib.ListN.{getD}
 use Rattle.laws.specs.Bits.{hasBit}
-use Rattle.laws.specs.Words.{bitsOf, anyOf, bits-same, any-same, bits-has, bits-past}
+use Rattle.laws.specs.Words.{bitsOf, anyOf, bits-same, any-same, bits-has, any-bits}
 use Rattle.protections.specs.declared.Limits.{Limits}
 use Rattle.protections.specs.Limits.{limitsAt}
 use Rattle.protections.specs.Table.{rowAt, protections}
@@ -16,7 +17,25 @@ use Rattle.guard.specs.declared.rule.Protection.{Protection}
 use Rattle.guard.specs.Runs.{isRaised}
 use Rattle.guard.specs.Steps.{noProtection, raised, protectionsOf, protections-at, protection-raised, protection-limits}
 
--- ---- of the array
+-- ---- from the page's limits and the history
+
+-- Protection p is raised after the history.
+abbrev pub raisedAfter : List Limits → List Sample → ℕ → Bool
+raisedAfter ls h p = raised (rowAt p) (limitsAt ls p) h
+
+-- Bit p for raised p.
+unfoldable pub raisedWord : List Limits → List Sample → ℕ
+raisedWord ls h = bitsOf (raisedAfter ls h) protections
+
+-- A protection is raised, whatever its mask: mask 0 only reports, and is raised all the same.
+unfoldable pub someRaised : List Limits → List Sample → Bool
+someRaised ls h = anyOf (raisedAfter ls h) protections
+
+-- A raised protection has the mask bit of the switch: 0 is charge, 1 is discharge.
+unfoldable pub blocked : List Limits → List Sample → ℕ → Bool
+blocked ls h switch = anyOf (λ p. raisedAfter ls h p && hasBit (limitsAt ls p .mask) switch) protections
+
+-- ---- read off the array
 
 abbrev pub raisedAt : List Protection → ℕ → Bool
 raisedAt ps p = isRaised (getD ps p noProtection .alarm)
@@ -34,24 +53,6 @@ blocksOne switch p = isRaised (p .alarm) && hasBit (p .limits .mask) switch
 
 unfoldable pub blocksAny : ℕ → List Protection → Bool
 blocksAny switch ps = anyOf (λ p. blocksOne switch (getD ps p noProtection)) protections
-
--- ---- of the page's limits and the history
-
--- Protection p is raised after the history.
-abbrev pub raisedAfter : List Limits → List Sample → ℕ → Bool
-raisedAfter ls h p = raised (rowAt p) (limitsAt ls p) h
-
--- Bit p for raised p.
-unfoldable pub raisedWord : List Limits → List Sample → ℕ
-raisedWord ls h = bitsOf (raisedAfter ls h) protections
-
--- A protection is raised.
-unfoldable pub someRaised : List Limits → List Sample → Bool
-someRaised ls h = anyOf (raisedAfter ls h) protections
-
--- A raised protection has the mask bit of the switch: 0 is charge, 1 is discharge.
-unfoldable pub blocked : List Limits → List Sample → ℕ → Bool
-blocked ls h switch = anyOf (λ p. raisedAfter ls h p && hasBit (limitsAt ls p .mask) switch) protections
 
 -- ---- the array that stands for a history says what the history says
 
@@ -84,6 +85,7 @@ module _ (ls : List Limits) (h : List Sample) where
   unfolding raisedWord
   raisedWord-has p q = bits-has (raisedAfter ls h) protections p (omega arith) q
 
-  pub raisedWord-past : (p : ℕ) → protections ≤ p → hasBit (raisedWord ls h) p ≡ false
-  unfolding raisedWord
-  raisedWord-past p q = bits-past (raisedAfter ls h) protections p q
+  -- No protection is raised exactly if the word is 0.
+  pub someRaised-word : someRaised ls h ≡ not (eqb (raisedWord ls h) 0)
+  unfolding someRaised raisedWord
+  someRaised-word = any-bits (raisedAfter ls h) protections (omega arith)

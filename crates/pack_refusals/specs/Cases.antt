@@ -7,7 +7,7 @@ use lib.IntN.{pos}
 use Rattle.laws.specs.Each.{eachTo}
 use Rattle.page_words.specs.Ranges.{within}
 use Rattle.refusals.specs.Answers.{answerOf}
-use Rattle.refusals.specs.Refusals.{Answer, answer}
+use Rattle.refusals.specs.Refusals.{answer}
 use Rattle.sample.specs.Cases.{minus, sampled}
 use Rattle.sample.specs.declared.Sample.{Sample}
 use Rattle.pack_refusals.specs.Samples.{cellsFit, sampleRefusals, sampleVerdict, commandRefusals, commandVerdict, keptCell, trimmed}

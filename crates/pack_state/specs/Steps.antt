@@ -103,8 +103,9 @@ module _ (page : Settings) (good : Good page) where
       let same : length h ≡ length ws = sym (wishes-length page h) in
       let begun : suc (length h) - 1 ≡ length h = omega arith in
       let rests : ℕ = restingWord (page .rules .n) (page .rules .r) (byPage page bledWord ws) (byPage page runsOf ws) in
-      let bled : chosenWord (page .rules .n) (page .rules .k) want rests (startCell (page .rules .n) (length h)) ≡ byPage page bledWord (wishAt page s h ∷ ws) =
-      ap (λ (i : ℕ). chosenWord (page .rules .n) (page .rules .k) want rests (startCell (page .rules .n) i)) same
+      let chosen : ℕ → ℕ = λ i. chosenWord (page .rules .n) (page .rules .k) want rests (startCell (page .rules .n) i) in
+      let bled : chosen (length h) ≡ byPage page bledWord (wishAt page s h ∷ ws) =
+      ap chosen same
       ∙ byPage page choose-is some ten limited short ws (wishAt page s h) want shows in
       balance-same
       (ap (λ (i : ℕ). record { 0 = startCell (page .rules .n) i }) (sym begun))

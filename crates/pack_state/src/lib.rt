@@ -2,11 +2,11 @@
 ghost use mathlib.Core.Path.{_≡_};
 ghost use Rattle.pack_state.specs.State.{nextTick, wantWith, nextBalance, acceptedPack};
 use bleed::chooser::choose;
+use bleed::resting::next_cell;
 use bleed::resting::next_runs;
-use bleed::resting::next_start;
-use bleed::resting::resting;
+use bleed::resting::resting_word;
 use bleed_wants::is_charging;
-use bleed_wants::wanting;
+use bleed_wants::wanting_word;
 use guard::all::step_all;
 use guard::rule::Protection;
 use guard_raised::any_raised;
@@ -57,7 +57,7 @@ fn want_at(r: Rules, s: Sample, e: Extremes, ps: [Protection; PROTECTIONS]) -> u
     let charging = is_charging(r.detection, s.current);
     let raised = any_raised(ps);
     let cells = s.cells;
-    wanting(
+    wanting_word(
         r.n,
         charging,
         raised,
@@ -74,10 +74,10 @@ fn next_balance(r: Rules, want: u16, b: Balance) -> Balance
 {
     let runs = b.runs;
     let start = b.start;
-    let rested = resting(r.n, r.r, b.bled, runs);
+    let rested = resting_word(r.n, r.r, b.bled, runs);
     let bled = choose(r.n, r.k, want, rested, start);
     let next = next_runs(bled, runs);
-    let after = next_start(r.n, start);
+    let after = next_cell(r.n, start);
     Balance {
         begun: start,
         rested: rested,

@@ -29,7 +29,7 @@ use Rattle.bleed.specs.Walk.History.{resting, startCell, bleds}
 use Rattle.bleed.specs.Walk.Demand.{run-short, never-more, never-neighbours}
 use Rattle.bleed.specs.Walk.Word.{wordOf, wordOf-bit, wordOf-few}
 use Rattle.bleed.specs.Walk.Steps.{chosenWord}
-use Rattle.bleed.specs.Walk.StepLaws.{CellOf, chosen-walked}
+use Rattle.bleed.specs.Walk.StepLaws.{InPack, chosen-walked}
 
 -- ---- the definitions
 
@@ -60,7 +60,7 @@ wanting-shows n charges raised floor difference lowest cells ten k a b =
 -- ---- the start cell
 
 -- The start cell is a cell of the pack.
-pub start-cell : (n count : ℕ) → 1 ≤ n → n ≤ 10 → CellOf n (startCell n count)
+pub start-cell : (n count : ℕ) → 1 ≤ n → n ≤ 10 → InPack n (startCell n count)
 start-cell n count h t = record { ten = t; first = omega arith; last = mod-lt count h }
 
 pub next-start-is : (n count : ℕ) → 1 ≤ n → nextCell n (startCell n count) ≡ startCell n (suc count)

@@ -157,12 +157,12 @@ module _ (n K want rest : ℕ) where
 -- ---- the start cell
 
 -- What it says that cell k is one of a pack's n cells.
-pub record CellOf (n k : ℕ) : Type 0 where
+pub record InPack (n k : ℕ) : Type 0 where
   pub ten : n ≤ 10
   pub first : 1 ≤ k
   pub last : k ≤ n
 
-cell-says : (n k : ℕ) → isCell n k ≡ true → CellOf n k
+cell-says : (n k : ℕ) → isCell n k ≡ true → InPack n k
 unfolding isCell
 cell-says n k e =
     let both = and-left (ltb 0 k && leb k n) (leb n 10) e in
@@ -172,7 +172,7 @@ cell-says n k e =
       last = leb-true k n (and-right (ltb 0 k) (leb k n) both);
     }
 
-cell-is : (n k : ℕ) → CellOf n k → isCell n k ≡ true
+cell-is : (n k : ℕ) → InPack n k → isCell n k ≡ true
 unfolding isCell
 cell-is n k c = rw (lt-ltb 0 k (c .first), le-leb k n (c .last), le-leb n 10 (c .ten))
 
@@ -180,7 +180,7 @@ cell-is n k c = rw (lt-ltb 0 k (c .first), le-leb k n (c .last), le-leb n 10 (c 
 
 module _ (n K want rest start : ℕ) where
   -- From a cell of the pack it is the word of the walk's cells,
-  pub chosen-walked : CellOf n start → chosenWord n K want rest start ≡ wordOf (chosen n K (inWord want) (inWord rest) start)
+  pub chosen-walked : InPack n start → chosenWord n K want rest start ≡ wordOf (chosen n K (inWord want) (inWord rest) start)
   unfolding chosenWord
   chosen-walked c = rw (cell-is n start c)
 

@@ -1,5 +1,4 @@
 -- `pack::offer` meets its contract. Assumes nothing.
-use mathlib.Core.Path.{sym, _∙_}
 use Rattle.pack.specs.Calls.{offer-accepted, offer-refused}
 use borrow.Author.Needs.{needs}
 use Rattle.pack.proofs.offer.Statement.{statement}
@@ -21,7 +20,10 @@ enum-told-2 : tie.Need-enum-told-2
 enum-told-2 c = search needs
 
 returns : tie.Need-returns
-returns c = offer-accepted _ (c .before .before .before .before .before .before .pre) _ _ _ _ (c .before .before .before .before .sample-verdict .ensures) (c .before .before .enum-told .given .1) (c .before .trim .ensures) (c .accept .ensures)
+returns c =
+    let d = c .before .before .before .before in
+    offer-accepted _ (d .before .before .pre) _ _ _ _ (d .sample-verdict .ensures) (c .before .before .enum-told .given .1) (c .before .trim .ensures)
+    (c .accept .ensures)
 
 returns-2 : tie.Need-returns-2
 returns-2 c = offer-refused _ (c .before .before .before .before .pre) _ _ _ _ (c .before .before .sample-verdict .ensures) (c .enum-told2 .given .1)

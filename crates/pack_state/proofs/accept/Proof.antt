@@ -22,7 +22,14 @@ next-tick-requires c κs = search needs
 returns : tie.Need-returns
 unfolding acceptedPack
 returns c =
-    rw (c .next-tick .ensures, c .before .next-balance .ensures, c .before .before .before .want-at .ensures, c .before .before .before .before .before .step-all .ensures, c .before .before .before .before .before .before .before .extremes-of .ensures)
+    let d = c .before .before .before in
+    rw (
+      c .next-tick .ensures,
+      c .before .next-balance .ensures,
+      d .want-at .ensures,
+      d .before .before .step-all .ensures,
+      d .before .before .before .before .extremes-of .ensures,
+    )
 
 pub accept-spec : {M : Type 1} → statement M
 accept-spec =

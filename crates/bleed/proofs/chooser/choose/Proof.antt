@@ -1,4 +1,4 @@
--- `bleed::choose` meets its contract. The loop's invariant: what the cells that are left make of the word is what all cells make
+-- `bleed::chooser::choose` meets its contract. The loop's invariant: what the cells that are left make of the word is what all cells make
 -- of the empty one, so that at the end the word is the whole walk's.
 -- Assumes nothing.
 use mathlib.Core.Path.{_≡_, refl, sym, _∙_}
@@ -32,8 +32,8 @@ loop-holds c = refl
 take-one-requires : tie.Need-take-one-requires Inv-loop μ-loop
 take-one-requires c κs = search needs
 
-next-start-requires : tie.Need-next-start-requires Inv-loop μ-loop
-next-start-requires c κs = search needs
+next-cell-requires : tie.Need-next-cell-requires Inv-loop μ-loop
+next-cell-requires c κs = search needs
 
 sub-left : tie.Need-sub-left Inv-loop μ-loop
 sub-left c = search needs
@@ -43,7 +43,7 @@ loop-less c = omega arith
 
 loop-again : tie.Need-loop-again Inv-loop μ-loop
 loop-again c =
-    rw (c .next-start .ensures, c .before .take-one .ensures)
+    rw (c .next-cell .ensures, c .before .take-one .ensures)
     (sym (take-on _ _ _ _ _ _ _ (c .before .before .loop-test .taken)) ∙ c .before .before .before .loop .inv)
 
 returns-3 : tie.Need-returns-3 Inv-loop μ-loop
@@ -63,7 +63,7 @@ choose-spec =
     returns-2
     loop-holds
     take-one-requires
-    next-start-requires
+    next-cell-requires
     sub-left
     loop-less
     loop-again

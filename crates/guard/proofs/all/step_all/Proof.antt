@@ -1,4 +1,4 @@
--- `alarms::step_all` meets its contract: the entries below i are stepped, the others as they were. Assumes nothing.
+-- `guard::all::step_all` meets its contract: the entries below i are stepped, the others as they were. Assumes nothing.
 use mathlib.Core.Path.{_≡_, refl}
 use Prim.Native.Nat.{_-_, _≤_}
 use Rattle.laws.specs.Each.{eachTo, each-next}

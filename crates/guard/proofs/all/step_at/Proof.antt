@@ -1,4 +1,4 @@
--- `alarms::step_at` meets its contract. Assumes nothing.
+-- `guard::all::step_at` meets its contract. Assumes nothing.
 use mir.Syntax.{w32}
 use mir.Facts.{toZ-ofZ}
 use Rattle.guard.specs.Steps.{stepWith}

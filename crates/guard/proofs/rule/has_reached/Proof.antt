@@ -1,4 +1,4 @@
--- `guard::has_reached` meets its contract. Assumes nothing.
+-- `guard::rule::has_reached` meets its contract. Assumes nothing.
 use mir.Facts.{toZ-ofZ}
 use borrow.Author.Needs.{needs}
 use Rattle.guard.proofs.rule.has_reached.Statement.{statement}

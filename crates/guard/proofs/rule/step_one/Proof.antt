@@ -1,4 +1,4 @@
--- `guard::step_one` meets its contract: the levels and the value are what their 32 bits say. Assumes nothing.
+-- `guard::rule::step_one` meets its contract: the levels and the value are what their 32 bits say. Assumes nothing.
 use mathlib.Core.Path.{_≡_}
 use mir.Val.{toZ, ofZ}
 use mir.Syntax.{w32}

@@ -1,4 +1,4 @@
--- `bleed::resting::resting` meets its contract. The loop's invariant: the word is that of the resting cells of the pack among the first i.
+-- `bleed::resting::resting_word` meets its contract. The loop's invariant: the word is that of the resting cells of the pack among the first i.
 -- Assumes nothing.
 use Prim.Native.Nat.{suc, _≤_, _-_}
 use mathlib.Core.Path.{_≡_, _∙_}
@@ -11,8 +11,8 @@ use Rattle.laws.specs.Words.{bitsOf, bits-none, bits-next, bits-within}
 use Rattle.bleed_wants.specs.Word.{wordTo}
 use Rattle.bleed.specs.Resting.Steps.{rested, restingWord}
 use Rattle.bleed.specs.Resting.StepLaws.{rested-at}
-use Rattle.bleed.proofs.resting.resting.Statement.{statement}
-use Rattle.bleed.proofs.resting.resting.Tie as tie
+use Rattle.bleed.proofs.resting.resting_word.Statement.{statement}
+use Rattle.bleed.proofs.resting.resting_word.Tie as tie
 
 abbrev Inv-loop : tie.InvT-loop
 Inv-loop n limit bled runs word₀ i₀ word i = (i ≤ 10) × (word ≡ bitsOf (λ j. ltb j n && rested limit runs (suc j)) i)
@@ -59,8 +59,8 @@ returns-2 c =
     let e : c .before .loop .i ≡ 10 = omega arith in
     rw (ne-eqb _ _ (c .before .before .if1 .left)) ((rw e at (c .before .loop .inv .1)) ∙ bits-within 10 _ _)
 
-pub resting-spec : {M : Type 1} → statement M
-resting-spec =
+pub resting-word-spec : {M : Type 1} → statement M
+resting-word-spec =
     tie.close
     (tie.spec
     Inv-loop

@@ -1,4 +1,4 @@
--- `bleed_wants::wanting` meets its contract. The loop's invariant: the word is that of the wanting cells among the first i.
+-- `bleed_wants::wanting_word` meets its contract. The loop's invariant: the word is that of the wanting cells among the first i.
 -- Assumes nothing.
 use Prim.Native.Nat.{_≤_, _-_}
 use mathlib.Core.Path.{_≡_, sym, _∙_}
@@ -11,8 +11,8 @@ use Rattle.units.specs.Cells.{looked-most}
 use Rattle.bleed_wants.specs.Word.{wordTo}
 use Rattle.bleed_wants.specs.Steps.{wishes, wantingWord}
 use Rattle.bleed_wants.specs.StepLaws.{wanting-none, wishes-at}
-use Rattle.bleed_wants.proofs.wanting.Statement.{statement}
-use Rattle.bleed_wants.proofs.wanting.Tie as tie
+use Rattle.bleed_wants.proofs.wanting_word.Statement.{statement}
+use Rattle.bleed_wants.proofs.wanting_word.Tie as tie
 
 abbrev Inv-loop : tie.InvT-loop
 Inv-loop n charging raised floor difference lowest cells last word₀ i₀ word i =
@@ -71,8 +71,8 @@ returns-3 c =
     let e : c .before .loop .i ≡ c .before .before .looked-at .result = omega arith in
     rw (← (c .before .before .looked-at .ensures), ← e) (c .before .loop .inv .2)
 
-pub wanting-spec : {M : Type 1} → statement M
-wanting-spec =
+pub wanting-word-spec : {M : Type 1} → statement M
+wanting-word-spec =
     tie.close
     (tie.spec
     Inv-loop
