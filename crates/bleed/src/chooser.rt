@@ -2,14 +2,14 @@
 ghost use mathlib.Core.Path.{_≡_};
 ghost use Rattle.bleed_wants.specs.Word.{inWord};
 ghost use Rattle.bleed.specs.Walk.Word.{withCellIf};
-ghost use Rattle.bleed.specs.Walk.Steps.{CellOf, Chosen, besideTaken, mayTake, takeOne};
-use crate::resting::next_start;
+ghost use Rattle.bleed.specs.Walk.Steps.{isCell, Chosen, besideTaken, mayTake, takeOne};
+use crate::resting::next_cell;
 use laws::has_bit;
 use laws::with_bit_if;
 use units::CellNo;
 
 // Cell k's bit, k - 1, is set in a word of cells; there is no cell 0.
-fn holds(word: u16, cell: CellNo) -> bool
+fn holds_cell(word: u16, cell: CellNo) -> bool
     ensures { λ r. ⌜ r ≡ inWord word (cell .0) ⌝ }
 {
     let k = cell.0;
@@ -47,8 +47,8 @@ fn beside_taken(taken: u16, cell: CellNo) -> bool
 fn may_take(most: u8, want: u16, rest: u16, taken: u16, cell: CellNo) -> bool
     ensures { λ r. ⌜ r ≡ mayTake most want rest taken (cell .0) ⌝ }
 {
-    if holds(want, cell) {
-        if holds(rest, cell) {
+    if holds_cell(want, cell) {
+        if holds_cell(rest, cell) {
             return false;
         }
         if beside_taken(taken, cell) {
@@ -67,13 +67,29 @@ fn take_one(most: u8, want: u16, rest: u16, taken: u16, cell: CellNo) -> u16
     with_cell_if(taken, cell, on)
 }
 
-// The cells to bleed, `most` (K) at most: every cell is asked once, from the start cell on. The start cell is one of the pack's.
+// The cell is one of the cells 1 to n, and they are ten at most.
+fn is_cell(n: u8, cell: CellNo) -> bool
+    ensures { λ r. ⌜ r ≡ isCell n (cell .0) ⌝ }
+{
+    let k = cell.0;
+    if k < 1 {
+        return false;
+    }
+    if n < k {
+        return false;
+    }
+    n <= 10
+}
+
+// The cells to bleed, `most` (K) at most: every cell is asked once, from the start cell on. A start that is no cell gives none.
 pub fn choose(n: u8, most: u8, want: u16, rest: u16, start: CellNo) -> u16
-    requires { ⌜ CellOf n (start .0) ⌝ }
     ensures { λ r. ⌜ Chosen n most want rest (start .0) r ⌝ }
 {
     // The walk takes a cell only if it wants bleeding.
     if want == 0 {
+        return 0;
+    }
+    if !is_cell(n, start) {
         return 0;
     }
     let mut taken: u16 = 0;
@@ -81,7 +97,7 @@ pub fn choose(n: u8, most: u8, want: u16, rest: u16, start: CellNo) -> u16
     let mut left = n;
     while 0 < left {
         taken = take_one(most, want, rest, taken, cell);
-        cell = next_start(n, cell);
+        cell = next_cell(n, cell);
         left -= 1;
     }
     taken

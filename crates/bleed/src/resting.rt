@@ -1,34 +1,22 @@
-// Whose turn it is, cell by cell: the start cell of the next sample, the runs of bled samples, and who rests.
+// What is kept from one sample to the next: the cell after a cell, the runs of bled samples, and who rests by them.
 ghost use mathlib.Core.Path.{_≡_};
 ghost use mathlib.Core.Bool.{_&&_};
 ghost use lib.Dec.{leb, ltb};
-ghost use Rattle.bleed.specs.Resting.Steps.{nextCell, nextRun, nextRuns, restingWord};
+ghost use Rattle.bleed.specs.Resting.Steps.{nextCell, nextRuns, restingWord};
 use laws::has_bit;
+use laws::next_run;
 use laws::with_bit_if;
 use units::CellNo;
 
-// The start cell goes on by one, from n to 1.
-pub fn next_start(n: u8, start: CellNo) -> CellNo
-    ensures { λ r. ⌜ r ≡ record { 0 = nextCell n (start .0) } ⌝ }
+// The cell after a cell, from n to 1: so the start cell goes on from sample to sample, and the walk from cell to cell.
+pub fn next_cell(n: u8, cell: CellNo) -> CellNo
+    ensures { λ r. ⌜ r ≡ record { 0 = nextCell n (cell .0) } ⌝ }
 {
-    let k = start.0;
+    let k = cell.0;
     if k < n {
         return CellNo(k + 1);
     }
     CellNo(1)
-}
-
-// The run of a cell that was bled goes on, that of another ends. It stays where a byte ends.
-fn next_run(bled: bool, run: u8) -> u8
-    ensures { λ r. ⌜ r ≡ nextRun bled run ⌝ }
-{
-    if bled {
-        if run < 255 {
-            return run + 1;
-        }
-        return run;
-    }
-    0
 }
 
 // The run counters after a sample, for each of the ten cells at how many of the latest in a row it was bled.
@@ -57,10 +45,14 @@ fn rests_one(n: u8, limit: u8, at: u8, run: u8) -> bool
     at < n && limit <= run
 }
 
-// The cells that rest, of cells 1 to n: those whose run has reached the limit R. All ten entries are asked.
-pub fn resting(n: u8, limit: u8, runs: [u8; 10]) -> u16
-    ensures { λ r. ⌜ r ≡ restingWord n limit runs ⌝ }
+// The word of the cells that rest, of cells 1 to n: none if no cell was bled at the sample before, else those whose run has
+// reached the limit R. All ten entries are asked.
+pub fn resting_word(n: u8, limit: u8, bled: u16, runs: [u8; 10]) -> u16
+    ensures { λ r. ⌜ r ≡ restingWord n limit bled runs ⌝ }
 {
+    if bled == 0 {
+        return 0;
+    }
     let mut word: u16 = 0;
     let mut i: u8 = 0;
     while i < 10 {

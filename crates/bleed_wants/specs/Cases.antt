@@ -5,10 +5,11 @@ use mathlib.Core.Bool.{Bool, true, false}
 use mathlib.Core.List.{List, [], _∷_, map}
 use lib.IntN.{pos, negsuc}
 use Rattle.units.specs.declared.MilliVolts.{MilliVolts}
-use Rattle.laws.specs.Bits.{withBit, withBitIf}
+use Rattle.laws.specs.Bits.{hasBit, withBit, withBitIf}
+use Rattle.laws.specs.Words.{bitsOf}
 use Rattle.bleed_wants.specs.Wants.{isCharging, wants}
-use Rattle.bleed_wants.specs.Word.{wordTo}
-use Rattle.bleed_wants.specs.Steps.{tenAtMost, cellOf, wishes, wantingWord}
+use Rattle.bleed_wants.specs.Word.{inWord, wordTo}
+use Rattle.bleed_wants.specs.Steps.{cellOf, wishes, wantingWord}
 
 -- "More than" the difference, "at or above" the floor, "at least" the detection current, which is signed.
 abbrev tests : List Bool
@@ -31,7 +32,15 @@ wants-exactly = refl
 abbrev volts : List MilliVolts
 volts = map (λ v. record { 0 = v }) (4011 ∷ 4000 ∷ 4010 ∷ 4500 ∷ 4500 ∷ 0 ∷ 0 ∷ 0 ∷ 0 ∷ 4500 ∷ [])
 
--- Of a pack of four cells only cells 1 to 4 want; a number over ten stands for ten.
-four-cells : wantingWord 4 true false 3900 10 4000 volts ∷ wantingWord 11 true false 3900 10 4000 volts ∷ [] ≡ 0x009 ∷ 0x219 ∷ []
-unfolding wantingWord wordTo wishes cellOf wants tenAtMost withBitIf withBit
-four-cells = refl
+-- Of a pack of four cells only cells 1 to 4 want; a number over ten stands for ten; and a floor above the lowest cell counts.
+few-cells :
+    wantingWord 4 true false 3900 10 4000 volts ∷ wantingWord 9 true false 3900 10 4000 volts ∷ wantingWord 10 true false 3900 10 4000 volts
+    ∷ wantingWord 11 true false 3900 10 4000 volts ∷ wantingWord 4 true false 4400 10 4000 volts ∷ []
+    ≡ 0x009 ∷ 0x019 ∷ 0x219 ∷ 0x219 ∷ 0x008 ∷ []
+unfolding wantingWord wordTo bitsOf wishes cellOf wants withBitIf withBit
+few-cells = refl
+
+-- Cell k has bit k - 1, and there is no cell 0.
+cells-of-a-word : map (inWord 0x201) (0 ∷ 1 ∷ 2 ∷ 9 ∷ 10 ∷ 11 ∷ []) ≡ false ∷ true ∷ false ∷ false ∷ true ∷ false ∷ []
+unfolding inWord hasBit
+cells-of-a-word = refl

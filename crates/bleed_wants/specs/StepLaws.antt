@@ -4,24 +4,14 @@ use mathlib.Core.Path.{_≡_, sym, ap}
 use mathlib.Core.Bool.{Bool, true, false}
 use mathlib.Core.List.{List}
 use mathlib.Core.Logic.{_⊎_, ⊎-elim}
-use Prim.Native.Nat.{ℕ, suc, _-_, _≤_}
+use Prim.Native.Nat.{ℕ, suc, _-_}
 use native.Mathlib.Omega.{arith}
-use lib.Dec.{ltb}
 use lib.ListN.{getD}
-use borrow.Author.Tests.{ltb-true, ltb-false}
 use Rattle.laws.specs.Tests.{by-test}
 use Rattle.units.specs.declared.MilliVolts.{MilliVolts}
 use Rattle.bleed_wants.specs.Wants.{wants}
 use Rattle.bleed_wants.specs.Word.{wordTo-none}
-use Rattle.bleed_wants.specs.Steps.{tenAtMost, cellOf, wishes, wantingWord}
-
-pub ten-small : (n : ℕ) → tenAtMost n ≤ 10
-unfolding tenAtMost
-ten-small n = by-test (ltb n 10) (λ t. let q = ltb-true n 10 t in rw t (omega arith)) (λ t. rw t (omega arith))
-
-pub ten-is : (n : ℕ) → n ≤ 10 → tenAtMost n ≡ n
-unfolding tenAtMost
-ten-is n h = by-test (ltb n 10) (λ t. rw t) (λ t. let q = ltb-false n 10 t in rw t (omega arith))
+use Rattle.bleed_wants.specs.Steps.{cellOf, wishes, wantingWord}
 
 -- No cell wants where there is no charge or a protection is raised.
 pub wanting-none : (n : ℕ) (charges raised : Bool) (floor difference lowest : ℕ) (cells : List MilliVolts) → (charges ≡ false) ⊎ (raised ≡ true)
@@ -37,9 +27,9 @@ wanting-none n charges raised floor difference lowest cells =
 after-one : (i : ℕ) → suc i - 1 ≡ i
 after-one i = omega arith
 
--- Cell i + 1 is entry i of the array.
-pub wishes-at : (charges raised : Bool) (floor difference lowest : ℕ) (cells : List MilliVolts) (i : ℕ)
-    → wants charges raised floor difference lowest (getD cells i (record { 0 = 0 }) .0) ≡ wishes charges raised floor difference lowest cells (suc i)
+-- Cell i + 1 is entry i of the array. The loop is reached only with a charge and no protection raised.
+pub wishes-at : (charges raised : Bool) (floor difference lowest : ℕ) (cells : List MilliVolts) (i : ℕ) → charges ≡ true → raised ≡ false
+    → wants true false floor difference lowest (getD cells i (record { 0 = 0 }) .0) ≡ wishes charges raised floor difference lowest cells (suc i)
 unfolding wishes cellOf
-wishes-at charges raised floor difference lowest cells i =
-    ap (λ (x : ℕ). wants charges raised floor difference lowest (getD cells x (record { 0 = 0 }) .0)) (sym (after-one i))
+wishes-at charges raised floor difference lowest cells i c r =
+    rw (c, r) (ap (λ (x : ℕ). wants true false floor difference lowest (getD cells x (record { 0 = 0 }) .0)) (sym (after-one i)))

@@ -1,17 +1,13 @@
 -- Who wants at one sample, from the cells' millivolts, as a word.
 -- Assumes nothing.
-use mathlib.Core.Bool.{Bool, cond}
+use mathlib.Core.Bool.{Bool}
 use mathlib.Core.List.{List}
 use Prim.Native.Nat.{ℕ, _-_}
-use lib.Dec.{ltb}
 use lib.ListN.{getD}
 use Rattle.units.specs.declared.MilliVolts.{MilliVolts}
+use Rattle.units.specs.Cells.{lookedAt}
 use Rattle.bleed_wants.specs.Wants.{wants}
 use Rattle.bleed_wants.specs.Word.{wordTo}
-
--- A pack has at most ten cells: a larger number stands for ten.
-unfoldable pub tenAtMost : ℕ → ℕ
-tenAtMost n = cond (ltb n 10) n 10
 
 -- The millivolts of cell k, from an array whose first entry is cell 1.
 unfoldable pub cellOf : List MilliVolts → ℕ → ℕ
@@ -24,4 +20,4 @@ wishes charges raised floor difference lowest cells k = wants charges raised flo
 -- The word of the cells that want bleeding.
 unfoldable pub wantingWord : ℕ → Bool → Bool → ℕ → ℕ → ℕ → List MilliVolts → ℕ
 wantingWord n charges raised floor difference lowest cells =
-    wordTo (tenAtMost n) (wishes charges raised floor difference lowest cells)
+    wordTo (lookedAt n) (wishes charges raised floor difference lowest cells)

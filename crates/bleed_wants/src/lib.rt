@@ -1,9 +1,11 @@
 // Who wants bleeding: one cell's wish, and the wishes of a pack as a word, bit k - 1 for cell k.
 ghost use mathlib.Core.Path.{_≡_};
 ghost use Rattle.bleed_wants.specs.Wants.{isCharging, wants};
-ghost use Rattle.bleed_wants.specs.Steps.{tenAtMost, wantingWord};
+ghost use mathlib.Core.Bool.{true, false};
+ghost use Rattle.bleed_wants.specs.Steps.{wantingWord};
 use laws::with_bit_if;
 use units::MilliVolts;
+use units::looked_at;
 
 // The current is at least the charge detection current.
 pub fn is_charging(detection: i16, current: i16) -> bool
@@ -12,41 +14,24 @@ pub fn is_charging(detection: i16, current: i16) -> bool
     detection <= current
 }
 
-// One cell's wish. The lowest cell and the difference may come to more than 16 bits hold.
+// One cell's wish while the pack charges and no protection is raised. The lowest cell and the difference may come to more than 16
+// bits hold.
 fn wants_one(
-    charging: bool,
-    raised: bool,
     floor: MilliVolts,
     difference: MilliVolts,
     lowest: MilliVolts,
     cell: MilliVolts,
 ) -> bool
-    ensures { λ r. ⌜ r ≡ wants charging raised (floor .0) (difference .0) (lowest .0) (cell .0) ⌝ }
+    ensures { λ r. ⌜ r ≡ wants true false (floor .0) (difference .0) (lowest .0) (cell .0) ⌝ }
 {
-    if charging {
-        if raised {
-            return false;
-        }
-        if cell.0 < floor.0 {
-            return false;
-        }
-        return (lowest.0 as u32) + (difference.0 as u32) < cell.0 as u32;
+    if cell.0 < floor.0 {
+        return false;
     }
-    false
+    (lowest.0 as u32) + (difference.0 as u32) < cell.0 as u32
 }
 
-// A pack has ten cells at most: a larger number stands for ten.
-fn ten_at_most(n: u8) -> u8
-    ensures { λ r. ⌜ r ≡ tenAtMost n ⌝ }
-{
-    if n < 10 {
-        return n;
-    }
-    10
-}
-
-// The cells that want bleeding, of cells 1 to n: bit k - 1 for cell k.
-pub fn wanting(
+// The word of the cells that want bleeding, of cells 1 to n: bit k - 1 for cell k.
+pub fn wanting_word(
     n: u8,
     charging: bool,
     raised: bool,
@@ -64,13 +49,13 @@ pub fn wanting(
     if raised {
         return 0;
     }
-    let last = ten_at_most(n);
+    let last = looked_at(n);
     let mut word: u16 = 0;
-    let mut i: u8 = 0;
+    let mut i: usize = 0;
     while i < last {
-        let cell = cells[i as usize];
-        let on = wants_one(charging, raised, floor, difference, lowest, cell);
-        word = with_bit_if(word, i, on);
+        let cell = cells[i];
+        let on = wants_one(floor, difference, lowest, cell);
+        word = with_bit_if(word, i as u8, on);
         i += 1;
     }
     word

@@ -15,7 +15,8 @@ use Rattle.laws.specs.Tests.{by-test, clash, and-left, and-right}
 use Rattle.laws.specs.Each.{eachTo}
 use Rattle.units.specs.declared.MilliVolts.{MilliVolts}
 use Rattle.sample.specs.declared.Sample.{Sample}
-use Rattle.sample.specs.Cells.{noVolts, lookedAt, looked-most}
+use Rattle.units.specs.Cells.{lookedAt, looked-most}
+use Rattle.sample.specs.Cells.{noVolts}
 use Rattle.pack_refusals.specs.Samples.{cellFits, cellsFit, keptCell, trimmed, sampleRefusals, sampleVerdict, commandVerdict}
 use Rattle.page_settings.specs.Good.{Good}
 use Rattle.pack_state.specs.declared.Pack.{Pack}

@@ -18,7 +18,8 @@ use Rattle.sample.specs.Cases.{minus, sampled}
 use Rattle.guard.specs.Cases.{limited}
 use Rattle.sample.specs.Measure.{measure}
 use Rattle.guard.specs.Steps.{raised}
-use Rattle.guard_raised.specs.Words.{bitsOf, anyOf, raisedWord, someRaised, blocked}
+use Rattle.laws.specs.Words.{bitsOf, anyOf}
+use Rattle.guard_raised.specs.Words.{raisedWord, someRaised, blocked}
 use Rattle.bleed.specs.Walk.Balance.{bledWord}
 use Rattle.bleed_wants.specs.Steps.{cellOf, wishes}
 use Rattle.bleed_wants.specs.Wants.{wants}

@@ -23,7 +23,7 @@ use Rattle.pack_state.specs.declared.Pack.{Pack}
 use Rattle.sample.specs.declared.Sample.{Sample}
 use Rattle.pack.specs.Events.{Event}
 use Rattle.pack_state.specs.Past.{Past, past}
-use Rattle.pack_state.specs.State.{wishesOf, bledAfter, balanceAfter, stateOf}
+use Rattle.pack_state.specs.State.{wishesOf, byPage, bledAfter, balanceAfter, stateOf}
 use Rattle.pack.specs.Kept.{pageOf, pastAfter, stateAfter}
 use Rattle.pack_shown.specs.Shown.{switchAfter, switchesWord}
 use Rattle.pack.specs.Calls.{page-accepted}
@@ -100,7 +100,7 @@ module _ (page : Settings) (p : Past) where
   -- "Never more set bits than K."
   pub bled-word-few : ones (wordAfter page p 0x46) ≤ page .rules .k
   unfolding wordAfter rowOf table sentWord packWord bledAfter
-  bled-word-few = bled-few (page .rules .n) (page .rules .k) (page .rules .r) (wishesOf page (p .history))
+  bled-word-few = byPage page bled-few (wishesOf page (p .history))
 
 -- "Values are those of the latest accepted sample; bits 8 and 9 of 0x45 also follow a later switch command": no other word does.
 module _ (page : Settings) (h : List Sample) (c d : ℕ) where

@@ -15,7 +15,8 @@ use Rattle.laws.specs.Bits.{hasBit, withBit, withBitIf}
 use Rattle.units.specs.declared.MilliVolts.{MilliVolts}
 use Rattle.units.specs.Signed.{wordOf}
 use Rattle.sample.specs.declared.Sample.{Sample}
-use Rattle.sample.specs.Cells.{noVolts, lookedAt}
+use Rattle.units.specs.Cells.{lookedAt}
+use Rattle.sample.specs.Cells.{noVolts}
 use Rattle.guard_raised.specs.Words.{raisedAfter, raisedWord, raisedBits, blocked, blocksAny}
 use Rattle.bleed_wants.specs.Wants.{isCharging}
 use Rattle.page_settings.specs.declared.Settings.{Settings}

@@ -3,7 +3,7 @@ ghost use mathlib.Core.Path.{_≡_};
 ghost use mathlib.Core.Bool.{cond};
 ghost use Prim.Native.Nat.{_*_, _≤_};
 ghost use Rattle.laws.specs.Bits.{hasBit};
-ghost use Rattle.sample.specs.Cells.{lookedAt};
+ghost use Rattle.units.specs.Cells.{lookedAt};
 ghost use Rattle.guard_raised.specs.Words.{blocksAny};
 ghost use Rattle.pack.specs.Kept.{Kept};
 ghost use Rattle.bus_words.specs.Words.{sumTo, cellWord, heatRaised, packWord, sentWord, saidOf, statusOf, raisedAndSwitches, Bounded};
@@ -19,9 +19,9 @@ use pack_shown::switches;
 use pack_state::Pack;
 use page_settings::Rules;
 use sample::Sample;
-use sample::looked_at;
 use units::CellNo;
 use units::MilliVolts;
+use units::looked_at;
 use units::word_of;
 
 // The sum of the first `count` cells.

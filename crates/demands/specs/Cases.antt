@@ -15,17 +15,18 @@ use Rattle.sample.specs.Cells.{bestOf, extremesOf}
 use Rattle.laws.specs.Numbered.{listOf, listFrom}
 use Rattle.sample.specs.Measure.{measure}
 use Rattle.guard.specs.Steps.{raised, protectionsOf, protectionOf, stepAllWith, stepWith, stepOne}
-use Rattle.guard_raised.specs.Words.{bitsOf, anyOf, raisedBits, anyRaised, blocksOne, blocksAny, someRaised}
+use Rattle.laws.specs.Words.{bitsOf, anyOf}
+use Rattle.guard_raised.specs.Words.{raisedBits, anyRaised, blocksOne, blocksAny, someRaised}
 use Rattle.bleed_wants.specs.Wants.{wants}
 use Rattle.bleed_wants.specs.Word.{inWord, wordTo}
 use Rattle.bleed.specs.Walk.History.{wantsCell}
 use Rattle.bleed.specs.Walk.Balance.{bledWord}
-use Rattle.bleed_wants.specs.Steps.{tenAtMost, cellOf, wishes, wantingWord}
-use Rattle.bleed.specs.Resting.Steps.{nextCell, nextRun, nextRuns, runOf, rested, restingWord}
-use Rattle.bleed.specs.Walk.Steps.{chosenWord}
+use Rattle.bleed_wants.specs.Steps.{cellOf, wishes, wantingWord}
+use Rattle.bleed.specs.Resting.Steps.{nextCell, nextRuns, runOf, rested, restingWord}
+use Rattle.bleed.specs.Walk.Steps.{isCell, chosenWord}
 use Rattle.pack_refusals.specs.Samples.{cellsFit, sampleRefusals, sampleVerdict, commandRefusals, commandVerdict, keptCell, trimmed}
 use Rattle.units.specs.Signed.{signedOf}
-use Rattle.laws.specs.Latest.{lastAll, among}
+use Rattle.laws.specs.Latest.{nextRun, lastAll, among}
 use Rattle.crc.specs.CheckByte.{timesX, timesXs, withByte, remainder, checkByte}
 use Rattle.page_words.specs.Ranges.{wordAt, within, degreesFit, levelFits, levelOf}
 use Rattle.page_faults.specs.Kinds.{kindOf}
@@ -241,8 +242,8 @@ pub cases-pass : gotten cases ≡ wanted cases
 unfolding freshPack freshBalance offered commanded withCommand acceptedPack nextBalance wantWith nextTick decisionOf switchesOf modeOf
     modeOrder firstMode sampleVerdict sampleRefusals cellsFit commandVerdict commandRefusals trimmed keptCell within protectionsOf
     protectionOf stepAllWith stepWith stepOne listOf listFrom eachTo extremesOf bestOf rowAt table raisedBits anyRaised blocksAny blocksOne
-    bitsOf anyOf hasBit withBit withBitIf wants inWord wordTo tenAtMost cellOf runOf wishes wantingWord rested restingWord nextCell nextRun
-    nextRuns chosenWord noSettings
+    bitsOf anyOf hasBit withBit withBitIf wants inWord wordTo cellOf runOf wishes wantingWord rested restingWord nextCell nextRun
+    nextRuns isCell chosenWord noSettings
 cases-pass = refl
 
 -- ---- the pages of these cases are accepted

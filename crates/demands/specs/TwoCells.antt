@@ -4,14 +4,13 @@
 use mathlib.Core.Path.{_≡_, refl, sym, ap, _∙_, subst}
 use mathlib.Core.Bool.{Bool, true, false, not, _&&_}
 use mathlib.Core.List.{List, [], _∷_}
-use mathlib.Core.Logic.{_⊎_, ⊎-elim}
 use Prim.Native.Nat.{ℕ, zero, suc, _+_, _-_, _≤_, _<_}
 use native.Mathlib.Omega.{arith}
 use native.Mathlib.Nat.{zero-lt-suc, not-suc-le-zero, mod-lt}
 use lib.Dec.{leb, ltb, eqb}
 use lib.ListN.{length, getD, drop}
-use borrow.Author.Tests.{ltb-true, eqb-true, eqb-false, eq-eqb}
-use Rattle.laws.specs.Tests.{by-test, clash, and-left, and-right, or-left, or-right, or-cases}
+use borrow.Author.Tests.{ltb-true, eqb-true, eqb-false}
+use Rattle.laws.specs.Tests.{by-test, clash, and-left, and-right}
 use Rattle.laws.specs.Latest.{lastAll, among}
 use Rattle.units.specs.declared.MilliVolts.{MilliVolts}
 use Rattle.refusals.specs.declared.Verdict.{Verdict}
@@ -27,56 +26,14 @@ use Rattle.page_judge.specs.Page.{judged}
 use Rattle.bleed.specs.Walk.Demand.{bleds-drop}
 use Rattle.pack.specs.Kept.{pageOf, pastAfter}
 use Rattle.pack.specs.Calls.{page-accepted}
-use Rattle.bleed.specs.Walk.Walk.{has, neighbours, hasNeighbour, chosen}
-use Rattle.bleed.specs.Walk.WalkLaws.{only-wanting, only-cells, no-waste}
+use Rattle.bleed.specs.Walk.Walk.{has, chosen}
+use Rattle.bleed.specs.Walk.WalkLaws.{lone-bled}
 use Rattle.bleed.specs.Walk.History.{wantsCell, resting, startCell, bleds}
 use Rattle.bleed_wants.specs.Wants.{wants}
 use Rattle.bleed_wants.specs.Steps.{wishes, cellOf}
 use Rattle.bleed_wants.specs.Word.{inWord}
 use Rattle.pack_state.specs.State.{wishAt, wishesOf}
 use Rattle.demands.specs.BledWords.{bledWords, words-alike, alike-drop, alike-among}
-
--- ---- a cell that wants alone
-
--- A neighbour in a set is a cell of it.
-neighbour-in : (k : ℕ) (l : List ℕ) → hasNeighbour k l ≡ true → (d : ℕ) × (has d l ≡ true) × (neighbours k d ≡ true)
-neighbour-in k [] e = clash refl (sym e)
-neighbour-in k (d ∷ l) e =
-    ⊎-elim
-    (λ u. (d, or-left (eqb d d) (has d l) (eq-eqb d d refl), u))
-    (λ u. let q = neighbour-in k l u in (q .0, or-right (eqb (q .0) d) (has (q .0) l) (q .1), q .2))
-    (or-cases (neighbours k d) (hasNeighbour k l) e)
-
-not-own : (k : ℕ) → neighbours k k ≡ true → ⊥
-not-own k e =
-    ⊎-elim (λ u. let q = eqb-true (suc k) k u in omega arith) (λ u. let q = eqb-true (suc k) k u in omega arith)
-    (or-cases (eqb (suc k) k) (eqb (suc k) k) e)
-
-module _ (n K : ℕ) (w rests : ℕ → Bool) (start k : ℕ) (some : 0 < K) (begins : 1 ≤ start) (ends : start ≤ n) (first : 1 ≤ k) (last : k ≤ n)
-    (want : w k ≡ true) (awake : rests k ≡ false) (alone : (d : ℕ) → 1 ≤ d → d ≤ n → w d ≡ true → d ≡ k) where
-  abbrev taken : List ℕ
-  taken = chosen n K w rests start
-
-  -- Whoever is taken is k.
-  only-k : (d : ℕ) → has d taken ≡ true → d ≡ k
-  only-k d e =
-      let inside = only-cells n K w rests start d begins ends e in
-      alone d (inside .0) (inside .1) (and-left (w d) (not (rests d)) (only-wanting n K w rests start d e))
-
-  someone : (l : List ℕ) → K ≤ length l → ((d : ℕ) → has d l ≡ true → d ≡ k) → has k l ≡ true
-  someone [] h f = absurd (omega arith)
-  someone (d ∷ l) h f =
-      let mine : has d (d ∷ l) ≡ true = or-left (eqb d d) (has d l) (eq-eqb d d refl) in
-      or-left (eqb k d) (has k l) (eq-eqb k d (sym (f d mine)))
-
-  pub alone-bled : has k taken ≡ true
-  alone-bled =
-      ⊎-elim
-      (λ u. u)
-      (⊎-elim
-      (λ u. let q = neighbour-in k taken u in absurd (not-own k (rw (only-k (q .0) (q .1)) at (q .2))))
-      (λ u. someone taken u only-k))
-      (no-waste n K w rests start k begins first last (rw (want, awake)))
 
 -- ---- two samples in a row
 
@@ -112,7 +69,7 @@ module _ (n K R k : ℕ) (some : 0 < K) (rests : 0 < R) (first : 1 ≤ k) (last 
       (λ u.
       let start = start-in n (suc (length ws)) (omega arith) in
       let is : has k now ≡ true =
-      alone-bled n K w (resting R (b ∷ bleds n K R ws)) (startCell n (suc (length ws))) k some (start .0) (start .1) first last want u (a .0 want) in
+      lone-bled n K w (resting R (b ∷ bleds n K R ws)) (startCell n (suc (length ws))) k some (start .0) (start .1) first last want (a .0 want) ∙ rw u in
       rw is (zero-lt-suc _))
 
 -- ---- two cells of a sample

@@ -4,8 +4,10 @@ use mathlib.Core.Path.{_≡_, refl}
 use mathlib.Core.Bool.{Bool, true, false}
 use mathlib.Core.List.{List, [], _∷_}
 use Prim.Native.Nat.{ℕ}
+use lib.Dec.{eqb}
 use lib.IntN.{ℤ, pos}
 use Rattle.units.specs.Levels.{level}
+use Rattle.laws.specs.Latest.{nextRun}
 use Rattle.protections.specs.declared.Limits.{Limits}
 use Rattle.protections.specs.Table.{rowAt, table}
 use Rattle.sample.specs.declared.Sample.{Sample}
@@ -13,9 +15,9 @@ use Rattle.sample.specs.Cells.{bestOf, extremesOf}
 use Rattle.sample.specs.Measure.{measure}
 use Rattle.sample.specs.Cases.{minus, sampled}
 use Rattle.guard.specs.declared.rule.Alarm.{Alarm}
-use Rattle.guard.specs.declared.rule.Alarm.the-variants.{Clear}
+use Rattle.guard.specs.declared.rule.Alarm.the-variants.{Clear, Raised}
 use Rattle.guard.specs.declared.rule.Protection.{Protection}
-use Rattle.guard.specs.Runs.{isRaised}
+use Rattle.guard.specs.Runs.{isRaised, runOf, alarmOf, alarmAfter}
 use Rattle.guard.specs.Steps.{raised, stepOne, stepWith}
 
 -- ---- limits and samples, written short
@@ -68,21 +70,21 @@ unfolding raised rowAt table measure extremesOf bestOf
 starred-history = refl
 
 pub starred-steps : bySteps 0 (loaded starred) starredSamples ≡ starredAnswer
-unfolding stepOne stepWith rowAt table extremesOf bestOf
+unfolding stepOne stepWith nextRun rowAt table extremesOf bestOf
 starred-steps = refl
 
 -- The runs themselves: two tripping samples, and none once another came.
 pub run-counts : alarmBySteps 0 (loaded starred) (high 4250 ∷ high 4250 ∷ []) ≡ Clear 2
-unfolding stepOne stepWith rowAt table extremesOf bestOf
+unfolding stepOne stepWith nextRun rowAt table extremesOf bestOf
 run-counts = refl
 
 pub run-ends : alarmBySteps 0 (loaded starred) (high 4250 ∷ high 4250 ∷ high 4249 ∷ []) ≡ Clear 0
-unfolding stepOne stepWith rowAt table extremesOf bestOf
+unfolding stepOne stepWith nextRun rowAt table extremesOf bestOf
 run-ends = refl
 
 -- A run of releasing samples does not go on over the release: the next run of tripping samples starts from none.
 pub run-after-release : alarmBySteps 0 (loaded starred) starredSamples ≡ Clear 0
-unfolding stepOne stepWith rowAt table extremesOf bestOf
+unfolding stepOne stepWith nextRun rowAt table extremesOf bestOf
 run-after-release = refl
 
 -- ---- currents are signed, to both ends of 16 bits
@@ -117,3 +119,28 @@ pub below-zero
     ≡ (false ∷ false ∷ false ∷ true ∷ true ∷ false ∷ true ∷ false ∷ [])
 unfolding raised rowAt table measure
 below-zero = refl
+
+-- ---- the run rule by itself, N 2 and M 3: 1 trips, 2 qualifies, 0 does neither
+
+-- What holds after each sample, the latest first, and at the load last.
+abbrev atEach : (List ℕ → Alarm) → List ℕ → List Alarm
+atEach f [] = f [] ∷ []
+atEach f (x ∷ h) = f (x ∷ h) ∷ atEach f h
+
+abbrev trodden : List ℕ
+trodden = 1 ∷ 2 ∷ 2 ∷ 2 ∷ 0 ∷ 2 ∷ 1 ∷ 1 ∷ 0 ∷ 1 ∷ []
+
+-- Raised at the second tripping sample in a row; a sample of neither kind ends the run; released at the third in a row that qualifies.
+abbrev alarms : List Alarm
+alarms =
+    Clear 1 ∷ Clear 0 ∷ Raised 2 ∷ Raised 1 ∷ Raised 0 ∷ Raised 1 ∷ Raised 0 ∷ Clear 1 ∷ Clear 0 ∷ Clear 1 ∷ Clear 0 ∷ []
+
+pub rule-history : atEach (alarmOf 2 3 (eqb 1) (eqb 2)) trodden ≡ alarms
+rule-history = refl
+
+pub rule-steps : atEach (alarmAfter 2 3 (eqb 1) (eqb 2)) trodden ≡ alarms
+unfolding nextRun
+rule-steps = refl
+
+pub runs-read : runOf (Clear 2) ∷ runOf (Raised 3) ∷ [] ≡ 2 ∷ 3 ∷ []
+runs-read = refl

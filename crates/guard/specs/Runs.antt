@@ -4,13 +4,12 @@
 use mathlib.Core.Path.{_≡_, refl, sym, ap, _∙_}
 use mathlib.Core.Bool.{Bool, true, false, not, cond, true≢false}
 use mathlib.Core.List.{List, [], _∷_}
-use Prim.Native.Nat.{ℕ, suc, _+_, _≤_, _<_}
-use native.Mathlib.Numerals.{add-one}
+use Prim.Native.Nat.{ℕ, suc, _≤_, _<_}
 use native.Mathlib.Omega.{arith}
 use lib.Dec.{leb}
 use borrow.Author.Tests.{lt-leb, leb-false, not-true}
 use Rattle.laws.specs.Tests.{by-test, clash}
-use Rattle.laws.specs.Latest.{lastAll, run, lastAll-run}
+use Rattle.laws.specs.Latest.{nextRun, run-goes-on, lastAll, run, lastAll-run}
 use Rattle.guard.specs.declared.rule.Alarm.{Alarm}
 use Rattle.guard.specs.declared.rule.Alarm.the-variants.{Clear, Raised}
 
@@ -31,14 +30,10 @@ pub run-most : (N M most : ℕ) (a : Alarm) → N ≤ most → M ≤ most → Ru
 run-most N M most (Clear run) n m w = omega arith
 run-most N M most (Raised run) n m w = omega arith
 
--- A run, one sample on: one longer if the sample counts, else none.
-abbrev pub runOn : Bool → ℕ → ℕ
-runOn counts run = cond counts (run + 1) 0
-
 -- One sample on, by counting: a run of N tripping samples raises, a run of M releasing samples releases.
 abbrev pub nextAlarm : ℕ → ℕ → Bool → Bool → Alarm → Alarm
-nextAlarm N M trip qualify (Clear run) = cond (leb N (runOn trip run)) (Raised 0) (Clear (runOn trip run))
-nextAlarm N M trip qualify (Raised run) = cond (leb M (runOn qualify run)) (Clear 0) (Raised (runOn qualify run))
+nextAlarm N M trip qualify (Clear run) = cond (leb N (nextRun trip run)) (Raised 0) (Clear (nextRun trip run))
+nextAlarm N M trip qualify (Raised run) = cond (leb M (nextRun qualify run)) (Clear 0) (Raised (nextRun qualify run))
 
 module _ {S : Type 0} (N M : ℕ) (trips qualifies : S → Bool) where
   -- "Clear: it is raised at a sample if the last N accepted samples, this one included, all trip. Raised: it is released
@@ -62,29 +57,9 @@ module _ {S : Type 0} (N M : ℕ) (trips qualifies : S → Bool) where
   alarm-none : (h : List S) → run trips h ≡ 0 → run qualifies h ≡ 0 → runOf (alarmOf h) ≡ 0
   alarm-none h t q = by-test (raised h) (λ e. rw e q) (λ e. rw e t)
 
-  module _ (n-least : 1 ≤ N) (m-least : 1 ≤ M) (never : (s : S) → trips s ≡ true → qualifies s ≡ false) where
+  module _ (n-least : 1 ≤ N) (n-most : N ≤ 255) (m-least : 1 ≤ M) (m-most : M ≤ 255) (never : (s : S) → trips s ≡ true → qualifies s ≡ false) where
     never′ : (s : S) → qualifies s ≡ true → trips s ≡ false
     never′ s q = by-test (trips s) (λ t. clash q (never s t)) (λ t. t)
-
-    -- THE RUN RULE: one step on from what a history says is what the longer history says.
-    pub alarm-step : (s : S) (h : List S) → nextAlarm N M (trips s) (qualifies s) (alarmOf h) ≡ alarmOf (s ∷ h)
-    alarm-step s h =
-        by-test (raised h)
-        (λ e. rw (e, lastAll-run) (by-test (qualifies s)
-        (λ q. rw (q, add-one) (by-test (leb M (suc (run qualifies h))) (λ u. rw (u, never′ s q)) (λ u. rw u)))
-        (λ q. rw (q, lt-leb M 0 m-least))))
-        (λ e. rw (e, lastAll-run) (by-test (trips s)
-        (λ t. rw (t, add-one) (by-test (leb N (suc (run trips h))) (λ u. rw (u, never s t)) (λ u. rw u)))
-        (λ t. rw (t, lt-leb N 0 n-least))))
-
-    -- After any history the stepped alarm is what the history says, its run included.
-    pub alarm-is : (h : List S) → alarmAfter h ≡ alarmOf h
-    alarm-is [] = refl
-    alarm-is (s ∷ h) = ap (nextAlarm N M (trips s) (qualifies s)) (alarm-is h) ∙ alarm-step s h
-
-    -- It is raised exactly if the history says so.
-    pub raised-is : (h : List S) → isRaised (alarmAfter h) ≡ raised h
-    raised-is h = ap isRaised (alarm-is h) ∙ alarm-raised h
 
     clear-within : (h : List S) → raised h ≡ false → run trips h < N
     clear-within [] e = n-least
@@ -103,6 +78,22 @@ module _ {S : Type 0} (N M : ℕ) (trips qualifies : S → Bool) where
         (λ u. by-test (trips s)
         (λ t. rw (never s t) m-least)
         (λ t. absurd (true≢false (sym (rw (u, lastAll-run, t, lt-leb N 0 n-least) at e)))))
+
+    -- THE RUN RULE: one step on from what a history says is what the longer history says.
+    pub alarm-step : (s : S) (h : List S) → nextAlarm N M (trips s) (qualifies s) (alarmOf h) ≡ alarmOf (s ∷ h)
+    alarm-step s h =
+        by-test (raised h)
+        (λ e. let w = raised-within h e in rw (e, run-goes-on (qualifies s) (run qualifies h) (omega arith), lastAll-run) (by-test (qualifies s)
+        (λ q. rw q (by-test (leb M (suc (run qualifies h))) (λ u. rw (u, never′ s q)) (λ u. rw u)))
+        (λ q. rw (q, lt-leb M 0 m-least))))
+        (λ e. let w = clear-within h e in rw (e, run-goes-on (trips s) (run trips h) (omega arith), lastAll-run) (by-test (trips s)
+        (λ t. rw t (by-test (leb N (suc (run trips h))) (λ u. rw (u, never s t)) (λ u. rw u)))
+        (λ t. rw (t, lt-leb N 0 n-least))))
+
+    -- After any history the stepped alarm is what the history says, its run included.
+    pub alarm-is : (h : List S) → alarmAfter h ≡ alarmOf h
+    alarm-is [] = refl
+    alarm-is (s ∷ h) = ap (nextAlarm N M (trips s) (qualifies s)) (alarm-is h) ∙ alarm-step s h
 
     -- No run leaves its type, however long the history is: it stays below N while clear, below M while raised.
     pub alarm-within : (h : List S) → RunWithin N M (alarmOf h)

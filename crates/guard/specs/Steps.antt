@@ -3,12 +3,12 @@
 use mathlib.Core.Path.{_≡_, refl, ap, _∙_}
 use mathlib.Core.Bool.{Bool, true, false, not}
 use mathlib.Core.List.{List, [], _∷_}
-use Prim.Native.Nat.{ℕ, _+_, _<_}
+use Prim.Native.Nat.{ℕ, _+_, _≤_, _<_}
 use native.Mathlib.Omega.{arith}
 use lib.IntN.{ℤ}
 use lib.ListN.{length, getD, set}
 use Rattle.laws.specs.Latest.{lastAll}
-use Rattle.laws.specs.Each.{eachTo, each-next, each-above, each-below}
+use Rattle.laws.specs.Each.{eachTo, each-next}
 use Rattle.protections.specs.declared.Direction.{Direction}
 use Rattle.protections.specs.declared.Limits.{Limits}
 use Rattle.protections.specs.declared.Row.{Row}
@@ -96,15 +96,7 @@ clearAt ls p old = clear (limitsAt ls p)
 abbrev pub Within : Protection → Type 0
 Within p = RunWithin (p .limits .n) (p .limits .m) (p .alarm)
 
-abbrev pub AllWithin : List Protection → Type 0
-AllWithin ps = (p : ℕ) → p < protections → Within (getD ps p noProtection)
-
 -- ---- what the loop over the protections needs
-
--- The entry that is stepped next is as it was.
-pub within-next : (e : Extremes) (s : Sample) (ps out : List Protection) (i : ℕ) → out ≡ eachTo noProtection (stepWith e s) i ps
-    → AllWithin ps → i < protections → Within (getD out i noProtection)
-within-next e s ps out i q w h = rw (q, each-above noProtection (stepWith e s) i ps i (omega arith)) (w i h)
 
 -- One more protection at the load.
 pub clear-next : (ls : List Limits) (l out : List Protection) (i : ℕ) (r : Protection) → out ≡ eachTo noProtection (clearAt ls) i l
@@ -125,18 +117,24 @@ module _ (row : Row) (l : Limits) (g : GoodLimits (row .direction) l) where
   pub never-at-once : (s : Sample) → trips row l s ≡ true → qualifies row l s ≡ false
   never-at-once s = never-both (row .direction) (l .trip .0) (l .release .0) (measure (row .quantity) s) (g .ordered)
 
+  n-byte : l .n ≤ 255
+  n-byte = let h = g .n-most in omega arith
+
+  m-byte : l .m ≤ 255
+  m-byte = let h = g .m-most in omega arith
+
   -- One step on from what a history says is what the longer history says.
   pub protection-step : (s : Sample) (h : List Sample)
       → stepOne (row .direction) (measure (row .quantity) s) (protectionOf row l h) ≡ protectionOf row l (s ∷ h)
   unfolding stepOne protectionOf
   protection-step s h =
       ap (λ (a : Alarm). record { limits = l; alarm = a })
-      (runs.alarm-step (l .n) (l .m) (trips row l) (qualifies row l) (g .n-least) (g .m-least) never-at-once s h)
+      (runs.alarm-step (l .n) (l .m) (trips row l) (qualifies row l) (g .n-least) n-byte (g .m-least) m-byte never-at-once s h)
 
   -- Its run stays below N or M, however long the history is.
   pub protection-within : (h : List Sample) → Within (protectionOf row l h)
   unfolding protectionOf
-  protection-within h = runs.alarm-within (l .n) (l .m) (trips row l) (qualifies row l) (g .n-least) (g .m-least) never-at-once h
+  protection-within h = runs.alarm-within (l .n) (l .m) (trips row l) (qualifies row l) (g .n-least) n-byte (g .m-least) m-byte never-at-once h
 
   -- So it is below 240, and fits its byte.
   pub protection-run : (h : List Sample) → runs.runOf (protectionOf row l h .alarm) < 240
@@ -150,7 +148,7 @@ module _ (row : Row) (l : Limits) (g : GoodLimits (row .direction) l) where
   unfolding raised protectionOf
   between-ends s h b =
       let e = between-neither (row .direction) (l .trip .0) (l .release .0) (measure (row .quantity) s) b in
-      runs.neither-ends (l .n) (l .m) (trips row l) (qualifies row l) (g .n-least) (g .m-least) never-at-once s h (e .0) (e .1)
+      runs.neither-ends (l .n) (l .m) (trips row l) (qualifies row l) (g .n-least) n-byte (g .m-least) m-byte never-at-once s h (e .0) (e .1)
 
 pub protection-raised : (row : Row) (l : Limits) (h : List Sample) → runs.isRaised (protectionOf row l h .alarm) ≡ raised row l h
 unfolding protectionOf raised
@@ -161,12 +159,6 @@ unfolding protectionOf
 protection-limits row l h = refl
 
 -- ---- all protections
-
--- The step of the array is the step of each entry, all of them.
-pub step-all-each : (s : Sample) (ps : List Protection) → length ps ≡ protections → (p : ℕ) → p < protections
-    → getD (stepAll s ps) p noProtection ≡ stepOne (rowAt p .direction) (measure (rowAt p .quantity) s) (getD ps p noProtection)
-unfolding stepAllWith stepWith measure
-step-all-each s ps e p q = each-below noProtection (stepWith (extremesOf (s .cells) (s .count)) s) protections ps p (omega arith) q
 
 module _ (ls : List Limits) where
   pub protections-length : (h : List Sample) → length (protectionsOf ls h) ≡ protections
@@ -194,10 +186,6 @@ module _ (ls : List Limits) (g : AllGood ls) where
       (protectionsOf ls h) (protections-length ls h) (λ p q.
       ap (stepWith (extremesOf (s .cells) (s .count)) s p) (protections-at ls h p q)
       ∙ protection-step (rowAt p) (limitsAt ls p) (g p q) s h)
-
-  -- So the step may be taken after any history.
-  pub protections-within : (h : List Sample) → AllWithin (protectionsOf ls h)
-  protections-within h p q = rw (protections-at ls h p q) (protection-within (rowAt p) (limitsAt ls p) (g p q) h)
 
   -- The load and then every sample of a history, stepped: the array is what the history says, each alarm with its run.
   pub protections-is : (h : List Sample) → protectionsAfter ls h ≡ protectionsOf ls h

@@ -1,7 +1,7 @@
-// The eight protections together: as a load leaves them, and one sample on.
+// All protections together: as a load leaves them, and one sample on.
 ghost use mathlib.Core.Path.{_≡_};
 ghost use mathlib.Core.List.{[]};
-ghost use Rattle.guard.specs.Steps.{clear, stepWith, stepAllWith, Within, AllWithin, protectionsOf};
+ghost use Rattle.guard.specs.Steps.{clear, stepWith, stepAllWith, protectionsOf};
 use crate::rule::Alarm;
 use crate::rule::Protection;
 use crate::rule::step_one;
@@ -15,7 +15,6 @@ use units::ProtectionNo;
 
 // Protection `no`, one sample on, by its row of the table.
 fn step_at(no: ProtectionNo, s: Sample, e: Extremes, p: Protection) -> Protection
-    requires { ⌜ Within p ⌝ }
     ensures { λ r. ⌜ r ≡ stepWith e s (no .0) p ⌝ }
 {
     let row = row_of(no);
@@ -27,7 +26,6 @@ fn step_at(no: ProtectionNo, s: Sample, e: Extremes, p: Protection) -> Protectio
 
 // Every protection, one sample on; e are the highest and the lowest cell of the sample.
 pub fn step_all(ps: [Protection; PROTECTIONS], s: Sample, e: Extremes) -> [Protection; PROTECTIONS]
-    requires { ⌜ AllWithin ps ⌝ }
     ensures { λ r. ⌜ r ≡ stepAllWith e s ps ⌝ }
 {
     let mut out = ps;

@@ -1,9 +1,9 @@
 // The run rule of document 01: what raises a protection and what releases it.
 ghost use mathlib.Core.Path.{_≡_};
-ghost use Prim.Native.Nat.{_<_};
 ghost use Rattle.protections.specs.Direction.{reaches};
-ghost use Rattle.guard.specs.Runs.{runOn, nextAlarm, RunWithin};
-ghost use Rattle.guard.specs.Steps.{stepOne, Within};
+ghost use Rattle.guard.specs.Runs.{nextAlarm};
+ghost use Rattle.guard.specs.Steps.{stepOne};
+use laws::next_run;
 use protections::Direction;
 use protections::Limits;
 use protections::back_of;
@@ -30,25 +30,13 @@ fn has_reached(d: Direction, level: Level, value: Level) -> bool
     }
 }
 
-// A run, one sample on: one longer if the sample counts, else none.
-fn run_on(counts: bool, run: u8) -> u8
-    requires { ⌜ run < 255 ⌝ }
-    ensures { λ r. ⌜ r ≡ runOn counts run ⌝ }
-{
-    if counts {
-        return run + 1;
-    }
-    0
-}
-
 // The run rule: a run of N tripping samples raises, a run of M releasing samples releases.
 fn next_alarm(n: u8, m: u8, trips: bool, qualifies: bool, a: Alarm) -> Alarm
-    requires { ⌜ RunWithin n m a ⌝ }
     ensures { λ r. ⌜ r ≡ nextAlarm n m trips qualifies a ⌝ }
 {
     match a {
         Alarm::Clear(old) => {
-            let run = run_on(trips, old);
+            let run = next_run(trips, old);
             if n <= run {
                 Alarm::Raised(0)
             } else {
@@ -56,7 +44,7 @@ fn next_alarm(n: u8, m: u8, trips: bool, qualifies: bool, a: Alarm) -> Alarm
             }
         }
         Alarm::Raised(old) => {
-            let run = run_on(qualifies, old);
+            let run = next_run(qualifies, old);
             if m <= run {
                 Alarm::Clear(0)
             } else {
@@ -68,7 +56,6 @@ fn next_alarm(n: u8, m: u8, trips: bool, qualifies: bool, a: Alarm) -> Alarm
 
 // One protection, one sample on: `value` is what it looks at in the sample.
 pub fn step_one(d: Direction, value: Level, p: Protection) -> Protection
-    requires { ⌜ Within p ⌝ }
     ensures { λ r. ⌜ r ≡ stepOne d (value .0) p ⌝ }
 {
     let limits = p.limits;

@@ -8,6 +8,8 @@ use lib.IntN.{ℤ, pos}
 use Rattle.laws.specs.Bits.{hasBit, withBit, withBitIf}
 use Rattle.laws.specs.Each.{eachTo}
 use Rattle.laws.specs.Numbered.{listFrom, listOf}
+use Rattle.laws.specs.Words.{bitsOf, anyOf}
+use Rattle.laws.specs.Latest.{nextRun}
 use Rattle.protections.specs.declared.Limits.{Limits}
 use Rattle.protections.specs.Table.{rowAt, table}
 use Rattle.sample.specs.declared.Sample.{Sample}
@@ -17,7 +19,7 @@ use Rattle.sample.specs.Cases.{minus, sampled}
 use Rattle.guard.specs.declared.rule.Protection.{Protection}
 use Rattle.guard.specs.Cases.{limited}
 use Rattle.guard.specs.Steps.{raised, protectionOf, protectionsOf, protectionsAfter, stepOne, stepWith, stepAllWith}
-use Rattle.guard_raised.specs.Words.{bitsOf, anyOf, raisedBits, raisedWord, blocksOne, blocksAny, blocked}
+use Rattle.guard_raised.specs.Words.{raisedBits, anyRaised, raisedWord, someRaised, blocksOne, blocksAny, blocked}
 
 -- Over voltage blocks charge after two samples, the second thermistor discharge after one, over charge current only reports.
 abbrev page : List Limits
@@ -35,31 +37,37 @@ page =
 abbrev seen : ℕ → ℤ → ℕ → Sample
 seen cell current t2 = sampled 2 (4000 ∷ cell ∷ 0 ∷ 0 ∷ 0 ∷ 0 ∷ 0 ∷ 0 ∷ 0 ∷ 0 ∷ []) current 2980 t2
 
--- The word, and whether charge and discharge are blocked, after a history (the latest sample first).
+-- The word, whether a protection is raised, and whether charge and discharge are blocked, after a history (the latest sample first).
 pub record Said : Type 0 where
   pub word : ℕ
+  pub any : Bool
   pub charge : Bool
   pub discharge : Bool
 
-abbrev said : ℕ → Bool → Bool → Said
-said w c d = record { word = w; charge = c; discharge = d }
+abbrev said : ℕ → Bool → Bool → Bool → Said
+said w a c d = record { word = w; any = a; charge = c; discharge = d }
 
 abbrev fromPage : List Sample → Said
-fromPage h = said (raisedWord page h) (blocked page h 0) (blocked page h 1)
+fromPage h = said (raisedWord page h) (someRaised page h) (blocked page h 0) (blocked page h 1)
 
+-- The fifth has the protection of mask 0 alone: it is raised and blocks no switch.
 pub words-history
     : (fromPage [] ∷ fromPage (seen 4260 (pos 0) 2980 ∷ []) ∷ fromPage (seen 4260 (pos 0) 2980 ∷ seen 4260 (pos 0) 2980 ∷ [])
     ∷ fromPage (seen 4000 (pos 0) 3330 ∷ []) ∷ fromPage (seen 4000 (pos 900) 2980 ∷ [])
     ∷ fromPage (seen 4260 (pos 900) 3330 ∷ seen 4250 (pos 0) 2980 ∷ []) ∷ [])
-    ≡ (said 0 false false ∷ said 0 false false ∷ said 1 true false ∷ said 128 false true ∷ said 4 false false ∷ said 133 true true ∷ [])
-unfolding raisedWord blocked bitsOf anyOf withBitIf withBit hasBit raised rowAt table measure extremesOf bestOf
+    ≡ (said 0 false false false ∷ said 0 false false false ∷ said 1 true true false ∷ said 128 true false true ∷ said 4 true false false ∷ said 133 true true true ∷ [])
+unfolding raisedWord someRaised blocked bitsOf anyOf withBitIf withBit hasBit raised rowAt table measure extremesOf bestOf
 words-history = refl
 
 -- The same by the steps of the whole array from the load.
 abbrev fromArray : List Protection → Said
-fromArray ps = said (raisedBits ps) (blocksAny 0 ps) (blocksAny 1 ps)
+fromArray ps = said (raisedBits ps) (anyRaised ps) (blocksAny 0 ps) (blocksAny 1 ps)
 
-pub words-steps : fromArray (protectionsAfter page (seen 4260 (pos 900) 3330 ∷ seen 4250 (pos 0) 2980 ∷ [])) ≡ said 133 true true
-unfolding raisedBits blocksAny blocksOne bitsOf anyOf withBitIf withBit hasBit stepAllWith stepWith stepOne eachTo protectionsOf
+pub words-steps
+    : (fromArray (protectionsAfter page []) ∷ fromArray (protectionsAfter page (seen 4000 (pos 0) 3330 ∷ []))
+    ∷ fromArray (protectionsAfter page (seen 4000 (pos 900) 2980 ∷ []))
+    ∷ fromArray (protectionsAfter page (seen 4260 (pos 900) 3330 ∷ seen 4250 (pos 0) 2980 ∷ [])) ∷ [])
+    ≡ (said 0 false false false ∷ said 128 true false true ∷ said 4 true false false ∷ said 133 true true true ∷ [])
+unfolding raisedBits anyRaised blocksAny blocksOne bitsOf anyOf withBitIf withBit hasBit stepAllWith stepWith stepOne nextRun eachTo protectionsOf
     protectionOf listOf listFrom rowAt table extremesOf bestOf
 words-steps = refl

@@ -3,13 +3,25 @@
 use mathlib.Core.Path.{_≡_, refl, sym, ap, _∙_}
 use mathlib.Core.Bool.{Bool, true, false, cond, _&&_, true≢false}
 use mathlib.Core.List.{List, [], _∷_}
-use Prim.Native.Nat.{ℕ, zero, suc, _+_, _≤_, zero-le, suc-le-suc}
+use Prim.Native.Nat.{ℕ, zero, suc, _+_, _≤_, _<_, zero-le, suc-le-suc}
 use native.Mathlib.Nat.{zero-add, suc-add, le-of-suc-le-suc, not-suc-le-zero}
 use native.Mathlib.Omega.{arith}
 use lib.Seq.{drop-nil}
-use lib.Dec.{leb, leb·zero, leb·suc-zero, leb·suc-suc}
+use native.Mathlib.Numerals.{add-one}
+use lib.Dec.{leb, ltb, leb·zero, leb·suc-zero, leb·suc-suc}
+use borrow.Author.Tests.{lt-ltb}
 use lib.ListN.{length, drop}
 use Rattle.laws.specs.Tests.{by-test}
+
+-- A run that is kept in a byte, one on: one longer where the test holds, else none. It stays at 255.
+unfoldable pub nextRun : Bool → ℕ → ℕ
+nextRun counts run = cond counts (cond (ltb run 255) (run + 1) run) 0
+
+-- Below 255 it goes on where the test holds, and ends where it does not.
+pub run-goes-on : (b : Bool) (r : ℕ) → r < 255 → nextRun b r ≡ cond b (suc r) 0
+unfolding nextRun
+run-goes-on true r h = rw (lt-ltb r 255 h, add-one)
+run-goes-on false r h = refl
 
 module _ {A : Type 0} where
   -- There are k at least, and p holds at each of the last k.

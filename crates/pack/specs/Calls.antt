@@ -16,8 +16,8 @@ use Rattle.page_settings.specs.declared.Loaded.{Loaded}
 use Rattle.page_settings.specs.Settings.{settingsOf, noSettings, loadedOf, loadedWith}
 use Rattle.page_settings.specs.Good.{Good, accepted-good}
 use Rattle.pack_state.specs.declared.Pack.{Pack}
-use Rattle.pack_state.specs.State.{stateOf, freshPack, acceptedPack, Ready}
-use Rattle.pack_state.specs.Steps.{state-next, state-ready, state-fresh}
+use Rattle.pack_state.specs.State.{stateOf, freshPack, acceptedPack}
+use Rattle.pack_state.specs.Steps.{state-next, state-fresh}
 use Rattle.pack.specs.declared.Answered.{Answered}
 use Rattle.pack.specs.Events.{Event, offer, command, accepts, withEvent, pastOf}
 use Rattle.pack.specs.Answers.{answered, offered, withCommand, commanded}
@@ -86,13 +86,6 @@ kept-command p c k =
       events = command c ∷ k .events;
       is = ap (λ (q : Pack). commanded q c .pack) (k .is) ∙ ap (λ (a : Answered). a .pack) (commanded-is (k .bytes) (k .events) c);
     }
-
--- A sample that is accepted finds the pack ready for the step.
-pub kept-ready : (p : Pack) (s : Sample) → Kept p → sampleVerdict (p .rules .n) s ≡ Accepted → Ready p
-unfolding stateAfter stateOf
-kept-ready p s k e =
-    let same : sampleVerdict (pageOf (k .bytes) .rules .n) s ≡ Accepted = sym (ap (λ (q : Pack). sampleVerdict (q .rules .n) s) (k .is)) ∙ e in
-    rw (k .is) (state-ready (pageOf (k .bytes)) (page-good (k .bytes) (sample-some (pageOf (k .bytes) .rules .n) s (ap accepts same))) (pastAfter (k .bytes) (k .events)))
 
 -- ---- the ends of the calls, in the code's own terms
 

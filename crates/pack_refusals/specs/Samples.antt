@@ -18,7 +18,8 @@ use Rattle.page_words.specs.Ranges.{within}
 use Rattle.refusals.specs.Refusals.{Refusal, refusal, whole, first}
 use Rattle.refusals.specs.declared.Verdict.{Verdict}
 use Rattle.refusals.specs.declared.Verdict.the-variants.{Accepted, Refused}
-use Rattle.sample.specs.Cells.{noVolts, lookedAt}
+use Rattle.units.specs.Cells.{lookedAt}
+use Rattle.sample.specs.Cells.{noVolts}
 use Rattle.sample.specs.declared.Sample.{Sample}
 
 -- "A cell over 6000" is refused.

@@ -1,14 +1,14 @@
 // Offered samples and switch commands: document 01's refusals 9, 10, 11 and 16, and what is kept of an accepted sample.
 ghost use mathlib.Core.Path.{_≡_};
 ghost use mathlib.Core.Bool.{_&&_};
-ghost use Rattle.sample.specs.Cells.{lookedAt};
+ghost use Rattle.units.specs.Cells.{lookedAt};
 ghost use Rattle.pack_refusals.specs.Samples.{cellFits, cellsFit, temperatureFits, temperaturesVerdict, sampleVerdict, commandVerdict, keptCell, trimmed};
 use refusals::Verdict;
 use refusals::refused;
 use sample::Sample;
-use sample::looked_at;
 use units::DeciKelvin;
 use units::MilliVolts;
+use units::looked_at;
 
 // One cell more that is no more than 6000 mV.
 fn cell_too(others: bool, v: MilliVolts) -> bool

@@ -2,7 +2,6 @@
 -- Assumes nothing.
 use mathlib.Core.Bool.{Bool, true, false, cond}
 use mathlib.Core.List.{List, [], _∷_}
-use mathlib.Core.Path.{_≡_}
 use Prim.Native.Nat.{ℕ, _+_, _-_, _%_}
 use lib.Dec.{ltb}
 use lib.ListN.{length, replicate}
@@ -11,14 +10,14 @@ use Rattle.guard.specs.declared.rule.Protection.{Protection}
 use Rattle.sample.specs.Cells.{extremesOf}
 use Rattle.sample.specs.None.{noSample}
 use Rattle.sample.specs.declared.Extremes.{Extremes}
-use Rattle.guard.specs.Steps.{protectionsOf, stepAll, AllWithin}
+use Rattle.guard.specs.Steps.{protectionsOf, stepAll}
 use Rattle.guard_raised.specs.Words.{someRaised, anyRaised}
 use Rattle.page_settings.specs.declared.Rules.{Rules}
 use Rattle.page_settings.specs.declared.Settings.{Settings}
 use Rattle.bleed_wants.specs.Wants.{isCharging}
 use Rattle.bleed_wants.specs.Steps.{wishes, wantingWord}
 use Rattle.bleed.specs.Resting.Steps.{nextCell, nextRuns, restingWord}
-use Rattle.bleed.specs.Walk.Steps.{chosenWord, CellOf}
+use Rattle.bleed.specs.Walk.Steps.{chosenWord}
 use Rattle.bleed.specs.Walk.History.{bleds, resting, startCell}
 use Rattle.bleed_wants.specs.Word.{wordTo}
 use Rattle.bleed.specs.Walk.Balance.{runsOf, bledWord}
@@ -48,35 +47,33 @@ abbrev pub anySample : List Sample → Bool
 anySample [] = false
 anySample (s ∷ h) = true
 
+-- "n 3, K 1, R 1": what depends on n, K and R, by those of a page. It serves definitions (`byPage page bleds ws`) and laws alike.
+abbrev pub byPage : {P : ℕ → ℕ → ℕ → Type 0} (page : Settings) → ((n K R : ℕ) → P n K R) → P (page .rules .n) (page .rules .k) (page .rules .r)
+byPage page f = f (page .rules .n) (page .rules .k) (page .rules .r)
+
 module _ (page : Settings) where
-  -- n, K and R of the page.
-  abbrev n : ℕ
-  n = page .rules .n
-
-  abbrev K : ℕ
-  K = page .rules .k
-
-  abbrev R : ℕ
-  R = page .rules .r
+  -- The cells bled at each sample of a history, the latest first.
+  abbrev pub bledsAfter : List Sample → List (List ℕ)
+  bledsAfter h = byPage page bleds (wishesOf page h)
 
   -- The word of the cells that rested at the latest sample; none before the first.
   unfoldable pub restedAfter : List Sample → ℕ
   restedAfter [] = 0
-  restedAfter (s ∷ h) = wordTo n (resting R (bleds n K R (wishesOf page h)))
+  restedAfter (s ∷ h) = wordTo (page .rules .n) (resting (page .rules .r) (bledsAfter h))
 
   -- The word of the cells that were bled at the latest sample; none before the first.
   unfoldable pub bledAfter : List Sample → ℕ
-  bledAfter h = bledWord n K R (wishesOf page h)
+  bledAfter h = byPage page bledWord (wishesOf page h)
 
   -- What bleeding keeps. The latest of i samples had i - 1 before it.
   unfoldable pub balanceAfter : List Sample → Balance
   balanceAfter h =
       record {
-        begun = record { 0 = startCell n (length h - 1) };
+        begun = record { 0 = startCell (page .rules .n) (length h - 1) };
         rested = restedAfter h;
         bled = bledAfter h;
-        start = record { 0 = startCell n (length h) };
-        runs = runsOf n K R (wishesOf page h);
+        start = record { 0 = startCell (page .rules .n) (length h) };
+        runs = byPage page runsOf (wishesOf page h);
       }
 
   -- The state of a pack with this page after this past.
@@ -108,10 +105,10 @@ unfoldable pub nextBalance : Rules → ℕ → Balance → Balance
 nextBalance r want b =
     record {
       begun = b .start;
-      rested = restingWord (r .n) (r .r) (b .runs);
-      bled = chosenWord (r .n) (r .k) want (restingWord (r .n) (r .r) (b .runs)) (b .start .0);
+      rested = restingWord (r .n) (r .r) (b .bled) (b .runs);
+      bled = chosenWord (r .n) (r .k) want (restingWord (r .n) (r .r) (b .bled) (b .runs)) (b .start .0);
       start = record { 0 = nextCell (r .n) (b .start .0) };
-      runs = nextRuns (chosenWord (r .n) (r .k) want (restingWord (r .n) (r .r) (b .runs)) (b .start .0)) (b .runs);
+      runs = nextRuns (chosenWord (r .n) (r .k) want (restingWord (r .n) (r .r) (b .bled) (b .runs)) (b .start .0)) (b .runs);
     }
 
 -- The word of the cells that want bleeding at a sample whose highest and lowest cell are e, by the protections after it.
@@ -121,13 +118,6 @@ wantWith e r s ps =
 
 abbrev pub wantAt : Rules → Sample → List Protection → ℕ
 wantAt r s ps = wantWith (extremesOf (s .cells) (s .count)) r s ps
-
--- What the step takes as given: every run is below its N or M, the start cell is a cell of the pack, and nobody rests where nobody was
--- bled at the latest sample.
-pub record Ready (p : Pack) : Type 0 where
-  pub runs : AllWithin (p .protections)
-  pub start : CellOf (p .rules .n) (p .balance .start .0)
-  pub idle : p .balance .bled ≡ 0 → restingWord (p .rules .n) (p .rules .r) (p .balance .runs) ≡ 0
 
 -- The pack after an accepted sample, of which `s` is kept.
 unfoldable pub acceptedPack : Pack → Sample → Pack

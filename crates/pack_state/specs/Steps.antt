@@ -1,6 +1,6 @@
 -- One step on from the state that a past stands for is the state of the longer past: the second demand, call by call.
 -- Assumes nothing.
-use mathlib.Core.Path.{_≡_, refl, sym, ap, ap₂, _∙_}
+use mathlib.Core.Path.{_≡_, refl, sym, ap, _∙_}
 use mathlib.Core.Bool.{Bool, true}
 use mathlib.Core.List.{List, [], _∷_}
 use Prim.Native.Nat.{ℕ, zero, suc, _-_, _%_, _≤_, _<_}
@@ -10,27 +10,23 @@ use lib.Dec.{ltb}
 use lib.ListN.{length}
 use borrow.Author.Tests.{ltb-true, ltb-false}
 use Rattle.laws.specs.Tests.{by-test}
-use Rattle.laws.specs.Bits.{withBitIf}
 use Rattle.units.specs.declared.CellNo.{CellNo}
 use Rattle.sample.specs.declared.Sample.{Sample}
 use Rattle.guard.specs.declared.rule.Protection.{Protection}
 use Rattle.protections.specs.Limits.{AllGood}
-use Rattle.guard.specs.Steps.{protectionsOf, protections-step, protections-within}
+use Rattle.guard.specs.Steps.{protectionsOf, protections-step}
 use Rattle.guard_raised.specs.Words.{anyRaised-is}
 use Rattle.page_settings.specs.declared.Settings.{Settings}
 use Rattle.page_settings.specs.Good.{Good}
-use Rattle.bleed.specs.Walk.History.{bleds, resting, startCell}
-use Rattle.bleed_wants.specs.Word.{wordTo}
-use Rattle.bleed.specs.Resting.Steps.{nextRuns, rested, restingWord}
+use Rattle.bleed.specs.Walk.History.{startCell}
+use Rattle.bleed.specs.Resting.Steps.{nextRuns, restingWord}
 use Rattle.bleed.specs.Walk.Steps.{chosenWord}
-use Rattle.bleed_wants.specs.StepLaws.{ten-is}
-use Rattle.bleed.specs.Resting.StepLaws.{none-rest}
-use Rattle.bleed.specs.Walk.Balance.{runsOf, bledWord, Shows, wanting-shows, start-cell, next-start-is, rested-is, choose-is, runs-are, runs-idle}
+use Rattle.bleed.specs.Walk.Balance.{runsOf, bledWord, Shows, wanting-shows, next-start-is, resting-is, choose-is, runs-are}
 use Rattle.page_settings.specs.declared.Rules.{Rules}
 use Rattle.pack_state.specs.declared.Balance.{Balance}
 use Rattle.pack_state.specs.declared.Pack.{Pack}
 use Rattle.pack_state.specs.Past.{Past, past}
-use Rattle.pack_state.specs.State.{wishAt, wishesOf, restedAfter, bledAfter, balanceAfter, stateOf, nextTick, nextBalance, wantWith, wantAt, Ready, acceptedPack, freshBalance, freshPack}
+use Rattle.pack_state.specs.State.{byPage, wishAt, wishesOf, restedAfter, bledAfter, balanceAfter, stateOf, nextTick, nextBalance, wantWith, wantAt, acceptedPack, freshBalance, freshPack}
 
 -- ---- the tick
 
@@ -42,13 +38,6 @@ tick-next count =
     (λ t. let h = ltb-false (count % 1000000) 999999 t in rw t (omega arith))
 
 -- ---- small laws
-
--- The word of a test depends only on what the test says of its cells.
-word-same : (m : ℕ) (p q : ℕ → Bool) → ((k : ℕ) → 1 ≤ k → k ≤ m → p k ≡ q k) → wordTo m p ≡ wordTo m q
-unfolding wordTo
-word-same zero p q same = refl
-word-same (suc i) p q same =
-    ap₂ (λ (b : Bool) (w : ℕ). withBitIf b w i) (same (suc i) (omega arith) (omega arith)) (word-same i p q (λ k a b. same k a (omega arith)))
 
 -- There is a wish for each sample.
 pub wishes-length : (page : Settings) (h : List Sample) → length (wishesOf page h) ≡ length h
@@ -82,6 +71,9 @@ module _ (page : Settings) (good : Good page) where
   ten : page .rules .n ≤ 10
   ten = good .n .1
 
+  limited : 1 ≤ page .rules .r
+  limited = good .r .0
+
   short : page .rules .r < 255
   short = let h = good .r in omega arith
 
@@ -96,21 +88,6 @@ module _ (page : Settings) (good : Good page) where
   unfolding wantWith wishAt
   want-shows s h = rw (anyRaised-is (page .limits) (s ∷ h)) (wanting-shows (page .rules .n) _ _ _ _ _ (s .cells) ten)
 
-  -- Who rests by the counters is who rests by the history.
-  rested-word : (ws : List (ℕ → Bool))
-      → restingWord (page .rules .n) (page .rules .r) (runsOf (page .rules .n) (page .rules .k) (page .rules .r) ws)
-      ≡ wordTo (page .rules .n) (resting (page .rules .r) (bleds (page .rules .n) (page .rules .k) (page .rules .r) ws))
-  unfolding restingWord
-  rested-word ws =
-      rw (ten-is (page .rules .n) ten) (word-same (page .rules .n) _ _ (λ k a b. rested-is (page .rules .n) (page .rules .k) (page .rules .r) ws k a (let t = ten in omega arith)))
-
-  -- Nobody rests where nobody was bled at the latest sample: R is 1 at least.
-  nobody-rests : (ws : List (ℕ → Bool)) → bledWord (page .rules .n) (page .rules .k) (page .rules .r) ws ≡ 0
-      → restingWord (page .rules .n) (page .rules .r) (runsOf (page .rules .n) (page .rules .k) (page .rules .r) ws) ≡ 0
-  nobody-rests ws e =
-      ap (restingWord (page .rules .n) (page .rules .r)) (runs-idle (page .rules .n) (page .rules .k) (page .rules .r) some ten short ws e)
-      ∙ none-rest (page .rules .n) (page .rules .r) (let h = good .r in omega arith)
-
   -- One step of bleeding.
   balance-next : (s : Sample) (h : List Sample) (want : ℕ) → Shows (page .rules .n) want (wishAt page s h)
       → nextBalance (page .rules) want (balanceAfter page h) ≡ balanceAfter page (s ∷ h)
@@ -119,17 +96,16 @@ module _ (page : Settings) (good : Good page) where
       let ws = wishesOf page h in
       let same : length h ≡ length ws = sym (wishes-length page h) in
       let begun : suc (length h) - 1 ≡ length h = omega arith in
-      let who : restingWord (page .rules .n) (page .rules .r) (runsOf (page .rules .n) (page .rules .k) (page .rules .r) ws) ≡ wordTo (page .rules .n) (resting (page .rules .r) (bleds (page .rules .n) (page .rules .k) (page .rules .r) ws)) =
-      rested-word ws in
-      let chose = choose-is (page .rules .n) (page .rules .k) (page .rules .r) some ten (wishAt page s h) ws want shows in
-      let runs = runs-are (page .rules .n) (page .rules .k) (page .rules .r) some ten (wishAt page s h) ws short in
-      let next = next-start-is (page .rules .n) (length h) some in
+      let rests : ℕ = restingWord (page .rules .n) (page .rules .r) (byPage page bledWord ws) (byPage page runsOf ws) in
+      let bled : chosenWord (page .rules .n) (page .rules .k) want rests (startCell (page .rules .n) (length h)) ≡ byPage page bledWord (wishAt page s h ∷ ws) =
+      ap (λ (i : ℕ). chosenWord (page .rules .n) (page .rules .k) want rests (startCell (page .rules .n) i)) same
+      ∙ byPage page choose-is some ten limited short ws (wishAt page s h) want shows in
       balance-same
-      (ap (λ (x : ℕ). record { 0 = startCell (page .rules .n) x }) (sym begun))
-      who
-      (ap (chosenWord (page .rules .n) (page .rules .k) want (restingWord (page .rules .n) (page .rules .r) (runsOf (page .rules .n) (page .rules .k) (page .rules .r) ws))) (ap (startCell (page .rules .n)) same) ∙ chose)
-      (ap (λ (x : ℕ). record { 0 = x }) next)
-      (ap (λ (x : ℕ). nextRuns x (runsOf (page .rules .n) (page .rules .k) (page .rules .r) ws)) (ap (chosenWord (page .rules .n) (page .rules .k) want (restingWord (page .rules .n) (page .rules .r) (runsOf (page .rules .n) (page .rules .k) (page .rules .r) ws))) (ap (startCell (page .rules .n)) same) ∙ chose) ∙ runs)
+      (ap (λ (i : ℕ). record { 0 = startCell (page .rules .n) i }) (sym begun))
+      (byPage page resting-is some ten limited short ws)
+      bled
+      (ap (λ (k : ℕ). record { 0 = k }) (next-start-is (page .rules .n) (length h) some))
+      (ap (λ (w : ℕ). nextRuns w (byPage page runsOf ws)) bled ∙ byPage page runs-are some ten (wishAt page s h) ws short)
 
   -- ---- the whole state
 
@@ -144,16 +120,6 @@ module _ (page : Settings) (good : Good page) where
       (ap (λ (ps : List Protection). nextBalance (page .rules) (wantAt (page .rules) s ps) (balanceAfter page h)) guarded
       ∙ balance-next s h (wantAt (page .rules) s (protectionsOf (page .limits) (s ∷ h))) (want-shows s h))
       (tick-next (length h))
-
-  -- So the step may be taken after any past.
-  pub state-ready : (p : Past) → Ready (stateOf page p)
-  unfolding stateOf balanceAfter bledAfter
-  state-ready p =
-      record {
-        runs = protections-within (page .limits) limits-good (p .history);
-        start = start-cell (page .rules .n) (length (p .history)) some ten;
-        idle = λ e. nobody-rests (wishesOf page (p .history)) e;
-      }
 
 -- ---- at the load
 

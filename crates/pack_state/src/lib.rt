@@ -1,14 +1,12 @@
 // The state of a pack: what it holds, and one accepted sample on.
 ghost use mathlib.Core.Path.{_≡_};
-ghost use Rattle.bleed.specs.Resting.Steps.{restingWord};
-ghost use Rattle.bleed.specs.Walk.Steps.{CellOf};
-ghost use Rattle.pack_state.specs.State.{nextTick, wantWith, nextBalance, Ready, acceptedPack};
+ghost use Rattle.pack_state.specs.State.{nextTick, wantWith, nextBalance, acceptedPack};
 use bleed::chooser::choose;
+use bleed::resting::next_cell;
 use bleed::resting::next_runs;
-use bleed::resting::next_start;
-use bleed::resting::resting;
+use bleed::resting::resting_word;
 use bleed_wants::is_charging;
-use bleed_wants::wanting;
+use bleed_wants::wanting_word;
 use guard::all::step_all;
 use guard::rule::Protection;
 use guard_raised::any_raised;
@@ -59,7 +57,7 @@ fn want_at(r: Rules, s: Sample, e: Extremes, ps: [Protection; PROTECTIONS]) -> u
     let charging = is_charging(r.detection, s.current);
     let raised = any_raised(ps);
     let cells = s.cells;
-    wanting(
+    wanting_word(
         r.n,
         charging,
         raised,
@@ -70,29 +68,16 @@ fn want_at(r: Rules, s: Sample, e: Extremes, ps: [Protection; PROTECTIONS]) -> u
     )
 }
 
-// Who rests at a sample: nobody, if nobody was bled at the one before it.
-fn resting_now(r: Rules, bled: u16, runs: [u8; 10]) -> u16
-    requires { ⌜ (bled ≡ 0 → restingWord (r .n) (r .r) runs ≡ 0) ⌝ }
-    ensures { λ w. ⌜ w ≡ restingWord (r .n) (r .r) runs ⌝ }
-{
-    if bled == 0 {
-        return 0;
-    }
-    resting(r.n, r.r, runs)
-}
-
 // Bleeding at one sample.
 fn next_balance(r: Rules, want: u16, b: Balance) -> Balance
-    requires { ⌜ CellOf (r .n) (b .start .0) ⌝ }
-    requires { ⌜ (b .bled ≡ 0 → restingWord (r .n) (r .r) (b .runs) ≡ 0) ⌝ }
     ensures { λ q. ⌜ q ≡ nextBalance r want b ⌝ }
 {
     let runs = b.runs;
     let start = b.start;
-    let rested = resting_now(r, b.bled, runs);
+    let rested = resting_word(r.n, r.r, b.bled, runs);
     let bled = choose(r.n, r.k, want, rested, start);
     let next = next_runs(bled, runs);
-    let after = next_start(r.n, start);
+    let after = next_cell(r.n, start);
     Balance {
         begun: start,
         rested: rested,
@@ -104,7 +89,6 @@ fn next_balance(r: Rules, want: u16, b: Balance) -> Balance
 
 // The pack after an accepted sample: protections first, then bleeding with the new protections.
 pub fn accept(p: Pack, s: Sample) -> Pack
-    requires { ⌜ Ready p ⌝ }
     ensures { λ r. ⌜ r ≡ acceptedPack p s ⌝ }
 {
     let cells = s.cells;

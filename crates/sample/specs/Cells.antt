@@ -13,6 +13,7 @@ use lib.ListN.{getD}
 use borrow.Author.Tests.{ltb-true, ltb-false}
 use Rattle.laws.specs.Tests.{by-test}
 use Rattle.units.specs.declared.MilliVolts.{MilliVolts}
+use Rattle.units.specs.Cells.{lookedAt, looked-all}
 use Rattle.sample.specs.declared.Extremes.{Extremes}
 
 abbrev pub noVolts : MilliVolts
@@ -39,10 +40,6 @@ highest = bestOf larger
 abbrev pub lowest : List MilliVolts → ℕ → MilliVolts
 lowest = bestOf smaller
 
--- How many entries of the array of ten are cells, if a sample says `count`.
-abbrev pub lookedAt : ℕ → ℕ
-lookedAt count = cond (ltb count 10) count 10
-
 abbrev pub extremesTo : List MilliVolts → ℕ → Extremes
 extremesTo cells n = record { highest = highest cells n; lowest = lowest cells n }
 
@@ -55,16 +52,6 @@ unfoldable pub extremesOf : List MilliVolts → ℕ → Extremes
 extremesOf cells count = extremesTo cells (lookedAt count)
 
 -- ---- what the search for them needs
-
-pub looked-most : (count : ℕ) → lookedAt count ≤ 10
-looked-most count = by-test (ltb count 10) (λ e. rw e (let h = ltb-true count 10 e in omega arith)) (λ e. rw e (omega arith))
-
--- Of ten cells or fewer, all are looked at.
-pub looked-all : (count : ℕ) → count ≤ 10 → lookedAt count ≡ count
-looked-all count h =
-    by-test (ltb count 10)
-    (λ e. rw e)
-    (λ e. let q = ltb-false count 10 e in rw e (let z : 10 ≡ count = omega arith in z))
 
 pub extremes-are : (cells : List MilliVolts) (count : ℕ) → count ≤ 10
     → extremesOf cells count ≡ record { highest = highest cells count; lowest = lowest cells count }

@@ -1,13 +1,14 @@
 // The quantities of a sample, which the protections look at: its highest and lowest cell, its current, its temperatures.
 ghost use mathlib.Core.Path.{_≡_};
 ghost use Rattle.units.specs.Levels.{level};
-ghost use Rattle.sample.specs.Cells.{larger, smaller, lookedAt, widen, extremesOf};
+ghost use Rattle.sample.specs.Cells.{larger, smaller, widen, extremesOf};
 ghost use Rattle.sample.specs.Measure.{measureWith};
 ghost use Rattle.sample.specs.None.{noSample};
 use protections::Quantity;
 use units::DeciKelvin;
 use units::Level;
 use units::MilliVolts;
+use units::looked_at;
 
 // A sample: the first `count` entries are cells 1 to `count`, and the entries past them are no cells.
 pub struct Sample {
@@ -69,16 +70,6 @@ fn widened(e: Extremes, cell: MilliVolts) -> Extremes
         highest: highest,
         lowest: lowest,
     }
-}
-
-// How many entries are cells: the array has ten.
-pub fn looked_at(count: u8) -> usize
-    ensures { λ r. ⌜ r ≡ lookedAt count ⌝ }
-{
-    if count < 10 {
-        return count as usize;
-    }
-    10
 }
 
 // The highest and the lowest of the first `count` cells; of none, 0 and 0.

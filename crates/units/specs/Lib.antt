@@ -1,3 +1,5 @@
+-- To be believed: how many of ten entries are cells.
+pub mod Cells
 -- To be believed: a 16-bit word as a signed number, and the word that is sent for one.
 pub mod Signed
 -- A number as a level.

@@ -1,5 +1,6 @@
 // The kinds of number that may not be mixed, and a 16-bit word as a signed number and back.
 ghost use mathlib.Core.Path.{_≡_};
+ghost use Rattle.units.specs.Cells.{lookedAt};
 ghost use Rattle.units.specs.Signed.{signedOf, wordOf};
 
 // Millivolts: a cell, the balance floor and difference, the charging voltage.
@@ -19,6 +20,16 @@ pub struct Level(pub i32);
 
 // A trip or release level in the unit of the page: mV, mA or degrees.
 pub struct PageLevel(pub i32);
+
+// How many entries of an array of ten are cells: a number over ten stands for ten.
+pub fn looked_at(count: u8) -> usize
+    ensures { λ r. ⌜ r ≡ lookedAt count ⌝ }
+{
+    if count < 10 {
+        return count as usize;
+    }
+    10
+}
 
 // A word read as a signed number. Currents and the page's signed levels come in this way.
 pub fn signed_of(word: u16) -> i16

@@ -7,6 +7,8 @@ use mathlib.Core.List.{List, [], _∷_}
 use Rattle.log.specs.Replay.{replayed}
 use Rattle.laws.specs.Bits as laws-bits
 use Rattle.laws.specs.Each as laws-each
+use Rattle.laws.specs.Latest as laws-latest
+use Rattle.laws.specs.Words as laws-words
 use Rattle.units.specs.Signed as units-signed
 use Rattle.protections.specs.Table as protections-table
 use Rattle.crc.specs.CheckByte as crc-checkbyte
@@ -67,10 +69,10 @@ unfolding laws-bits.hasBit laws-bits.withBitIf laws-each.eachTo units-signed.sig
     settings-settings.limitsOf settings-settings.rulesOf settings-settings.settingsOf settings-settings.noSettings
     settings-settings.loadedOf quantities-cells.bestOf quantities-cells.widen quantities-cells.extremesOf laws-numbered.listFrom
     laws-numbered.listOf guard-steps.raised guard-steps.protectionOf guard-steps.protectionsOf guard-steps.stepOne guard-steps.stepWith
-    guard-steps.stepAllWith guard-steps.clear guard-steps.clearAt raised-words.bitsOf raised-words.anyOf raised-words.raisedBits
-    raised-words.anyRaised raised-words.blocksOne raised-words.blocksAny wishes-steps.tenAtMost wishes-steps.cellOf turns-steps.runOf
-    wishes-steps.wishes wishes-steps.wantingWord turns-steps.rested turns-steps.restingWord turns-steps.nextCell turns-steps.nextRun
-    turns-steps.nextRuns walk-steps.chosenWord walk-steps.besideTaken walk-steps.mayTake walk-steps.takeOne walk-steps.takeFrom
+    guard-steps.stepAllWith guard-steps.clear guard-steps.clearAt laws-words.bitsOf laws-words.anyOf raised-words.raisedBits
+    raised-words.anyRaised raised-words.blocksOne raised-words.blocksAny wishes-steps.cellOf turns-steps.runOf
+    wishes-steps.wishes wishes-steps.wantingWord turns-steps.rested turns-steps.restingWord turns-steps.nextCell laws-latest.nextRun
+    turns-steps.nextRuns walk-steps.isCell walk-steps.chosenWord walk-steps.besideTaken walk-steps.mayTake walk-steps.takeOne walk-steps.takeFrom
     wishes-wants.wants wishes-word.inWord walk-word.withCellIf wishes-word.wordTo samples-samples.cellsFit samples-samples.sampleRefusals
     samples-samples.sampleVerdict samples-samples.commandRefusals samples-samples.commandVerdict samples-samples.keptCell
     samples-samples.trimmed pack-kept.afterLoad shown-shown.modeOrder shown-shown.firstMode shown-shown.switchesOf shown-shown.modeOf

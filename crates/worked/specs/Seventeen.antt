@@ -8,7 +8,7 @@ use Prim.Native.Nat.{ℕ}
 use lib.Dec.{ltb, leb, eqb}
 use Rattle.laws.specs.Tests.{by-test}
 use Rattle.sample.specs.declared.Sample.{Sample}
-use Rattle.sample.specs.Cells.{lookedAt}
+use Rattle.units.specs.Cells.{lookedAt}
 use Rattle.pack_refusals.specs.Samples.{cellsFit, temperatureFits, sampleRefusals, sampleVerdict, commandRefusals, commandVerdict}
 use Rattle.pack_state.specs.declared.Pack.{Pack}
 use Rattle.pack.specs.Answers.{offered, commanded}

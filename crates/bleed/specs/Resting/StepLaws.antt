@@ -1,25 +1,19 @@
 -- Laws of the run counters and of the word of who rests, as the code makes them.
 -- Assumes nothing.
 use mathlib.Core.Path.{_≡_, refl, sym, ap, _∙_}
-use mathlib.Core.Bool.{Bool, true, false, cond, _&&_}
+use mathlib.Core.Bool.{Bool, _&&_}
 use mathlib.Core.List.{List}
-use Prim.Native.Nat.{ℕ, zero, suc, _+_, _-_, _≤_, _<_}
-use native.Mathlib.Numerals.{add-one}
+use Prim.Native.Nat.{ℕ, zero, suc, _+_, _-_, _≤_}
 use native.Mathlib.Omega.{arith}
 use lib.Dec.{leb, ltb}
 use lib.ListN.{length, getD, set, replicate, getD-replicate}
 use lib.Seq.{ext-getD}
-use borrow.Author.Tests.{lt-ltb, lt-leb}
+use borrow.Author.Tests.{lt-leb}
 use Rattle.laws.specs.Bits.{hasBit, has-zero}
 use Rattle.laws.specs.Each.{each-next, each-length, each-below}
-use Rattle.bleed_wants.specs.Word.{wordTo-none}
-use Rattle.bleed.specs.Resting.Steps.{nextRun, nextRunsTo, nextRuns, runOf, rested, restingWord}
-
--- A counter below the last of a byte goes on where the cell was bled, and ends where it wasn't.
-pub run-goes-on : (b : Bool) (r : ℕ) → r < 255 → nextRun b r ≡ cond b (suc r) 0
-unfolding nextRun
-run-goes-on true r h = rw (lt-ltb r 255 h, add-one)
-run-goes-on false r h = refl
+use Rattle.laws.specs.Latest.{nextRun}
+use Rattle.bleed_wants.specs.Word.{wordTo, wordTo-none}
+use Rattle.bleed.specs.Resting.Steps.{nextRunsTo, nextRuns, runOf, rested}
 
 -- Every run ends where no cell was bled.
 pub runs-none : (runs : List ℕ) → length runs ≡ 10 → nextRuns 0 runs ≡ replicate 10 0
@@ -37,9 +31,9 @@ zeros (suc m) zero = refl
 zeros (suc m) (suc i) = zeros m i
 
 -- Nobody rests where no run is left.
-pub none-rest : (n R : ℕ) → 1 ≤ R → restingWord n R (replicate 10 0) ≡ 0
-unfolding restingWord rested runOf
-none-rest n R h = wordTo-none _ _ (λ k. rw (zeros 10 (k - 1)) (lt-leb R 0 h))
+pub none-rest : (m R : ℕ) → 1 ≤ R → wordTo m (rested R (replicate 10 0)) ≡ 0
+unfolding rested runOf
+none-rest m R h = wordTo-none _ _ (λ k. rw (zeros 10 (k - 1)) (lt-leb R 0 h))
 
 -- ---- one turn of each loop
 
@@ -49,6 +43,6 @@ runs-next bled i runs l b r e eb er =
     each-next 0 (λ j run. nextRun (hasBit bled j) run) i runs l r e (er ∙ ap (λ (x : Bool). nextRun x (getD l i 0)) eb)
 
 -- Cell i + 1 is entry i of the array.
-pub rested-at : (n R : ℕ) (runs : List ℕ) (i : ℕ) → ltb i n && leb R (getD runs i 0) ≡ leb (suc i) n && rested R runs (suc i)
+pub rested-at : (n R : ℕ) (runs : List ℕ) (i : ℕ) → ltb i n && leb R (getD runs i 0) ≡ ltb i n && rested R runs (suc i)
 unfolding rested runOf
 rested-at n R runs i = let e : suc i - 1 ≡ i = omega arith in rw e

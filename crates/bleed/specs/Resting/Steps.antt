@@ -3,20 +3,17 @@
 use mathlib.Core.Bool.{Bool, cond}
 use mathlib.Core.List.{List}
 use Prim.Native.Nat.{ℕ, _+_, _-_}
-use lib.Dec.{leb, ltb}
+use lib.Dec.{eqb, leb, ltb}
 use lib.ListN.{getD}
 use Rattle.laws.specs.Bits.{hasBit}
 use Rattle.laws.specs.Each.{eachTo}
+use Rattle.laws.specs.Latest.{nextRun}
 use Rattle.bleed_wants.specs.Word.{wordTo}
-use Rattle.bleed_wants.specs.Steps.{tenAtMost}
+use Rattle.units.specs.Cells.{lookedAt}
 
 -- The cell after k, from n to 1.
 unfoldable pub nextCell : ℕ → ℕ → ℕ
 nextCell n k = cond (ltb k n) (k + 1) 1
-
--- A run of bled samples goes on by one or ends; a byte holds it, and it is never over R, which is 240 at most.
-unfoldable pub nextRun : Bool → ℕ → ℕ
-nextRun bled run = cond bled (cond (ltb run 255) (run + 1) run) 0
 
 -- The run counters of the first m cells after a sample, and the others as they were: cell i + 1 has bit i and entry i.
 abbrev pub nextRunsTo : ℕ → ℕ → List ℕ → List ℕ
@@ -34,6 +31,7 @@ runOf runs k = getD runs (k - 1) 0
 unfoldable pub rested : ℕ → List ℕ → ℕ → Bool
 rested R runs k = leb R (runOf runs k)
 
--- The word of the cells that rest.
-unfoldable pub restingWord : ℕ → ℕ → List ℕ → ℕ
-restingWord n R runs = wordTo (tenAtMost n) (rested R runs)
+-- The word of the cells that rest, from the cells bled at the sample before and the run counters: nobody rests where nobody was bled.
+-- Who rests is defined from the history, `resting` in Walk/History; `resting-is` in Walk/Balance says that this word has just those.
+unfoldable pub restingWord : ℕ → ℕ → ℕ → List ℕ → ℕ
+restingWord n R bled runs = cond (eqb bled 0) 0 (wordTo (lookedAt n) (rested R runs))

@@ -8,40 +8,30 @@ use Prim.Native.Nat.{ℕ, zero, suc, _+_, _-_, _%_, _≤_, _<_}
 use native.Mathlib.Nat.{le-trans, mod-lt, mod-add-mod, mod-self, mod-eq-of-lt, suc-add, add-suc, add-zero, le-of-suc-le-suc, not-suc-le-zero}
 use native.Mathlib.Numerals.{add-one}
 use native.Mathlib.Omega.{arith}
-use lib.Dec.{ltb}
+use lib.Dec.{eqb, ltb}
 use lib.Count.{ones}
 use lib.ListN.{length, getD, replicate}
 use lib.Seq.{ext-getD}
-use borrow.Author.Tests.{ltb-true, ltb-false}
-use Rattle.units.specs.declared.CellNo.{CellNo}
+use borrow.Author.Tests.{eqb-true, ltb-true, ltb-false}
 use Rattle.units.specs.declared.MilliVolts.{MilliVolts}
 use Rattle.laws.specs.Tests.{by-test}
 use Rattle.laws.specs.Bits.{hasBit, has-zero}
 use Rattle.laws.specs.Each.{each-length, each-below}
-use Rattle.laws.specs.Latest.{run, lastAll-run}
-use Rattle.bleed_wants.specs.Word.{inWord, wordTo-in}
+use Rattle.laws.specs.Latest.{nextRun, run-goes-on, run, lastAll-run}
+use Rattle.bleed_wants.specs.Word.{inWord, wordTo, wordTo-same, wordTo-in}
 use Rattle.bleed_wants.specs.Steps.{wishes, wantingWord}
-use Rattle.bleed_wants.specs.StepLaws.{ten-is}
-use Rattle.bleed.specs.Resting.Steps.{nextCell, nextRun, nextRuns, runOf, rested, restingWord}
-use Rattle.bleed.specs.Resting.StepLaws.{runs-none, run-goes-on}
+use Rattle.units.specs.Cells.{looked-all}
+use Rattle.bleed.specs.Resting.Steps.{nextCell, nextRuns, runOf, rested, restingWord}
+use Rattle.bleed.specs.Resting.StepLaws.{runs-none, none-rest}
 use Rattle.bleed.specs.Walk.Walk.{has, upFrom, order}
 use Rattle.bleed.specs.Walk.WalkLaws.{walk-same, order-only, only-cells}
 use Rattle.bleed.specs.Walk.History.{resting, startCell, bleds}
 use Rattle.bleed.specs.Walk.Demand.{run-short, never-more, never-neighbours}
 use Rattle.bleed.specs.Walk.Word.{wordOf, wordOf-bit, wordOf-few}
-use Rattle.bleed.specs.Walk.Steps.{chosenWord, CellOf}
+use Rattle.bleed.specs.Walk.Steps.{chosenWord}
+use Rattle.bleed.specs.Walk.StepLaws.{InPack, chosen-walked}
 
 -- ---- the definitions
-
--- The start cell of the next sample, for each of the ten cells at how many of the latest samples in a row it was bled, and the
--- word of the cells that were bled at the latest sample.
-pub record Balance : Type 0 where
-  pub start : CellNo
-  pub runs : List ℕ
-  pub bled : ℕ
-
-abbrev pub balance : CellNo → List ℕ → ℕ → Balance
-balance s l b = record { start = s; runs = l; bled = b }
 
 module _ (n K R : ℕ) where
   -- For each of the cells 1 to 10, at how many of the latest samples in a row it was bled.
@@ -56,18 +46,6 @@ module _ (n K R : ℕ) where
   unfoldable pub bledWord : List (ℕ → Bool) → ℕ
   bledWord ws = wordOf (bledNow ws)
 
-  -- What a history of wishes says.
-  abbrev pub balanceOf : List (ℕ → Bool) → Balance
-  balanceOf ws = balance (record { 0 = startCell n (length ws) }) (runsOf ws) (bledWord ws)
-
-  -- What the code makes of what it kept and of the word of the cells that want.
-  abbrev pub chooseNext : ℕ → Balance → ℕ
-  chooseNext want b = chosenWord n K want (restingWord n R (b .runs)) (b .start .0)
-
-  -- One step: the start cell goes on, the chosen cells are bled, and their runs go on.
-  abbrev pub balanceStep : ℕ → Balance → Balance
-  balanceStep want b = balance (record { 0 = nextCell n (b .start .0) }) (nextRuns (chooseNext want b) (b .runs)) (chooseNext want b)
-
 -- The word shows which of the cells 1 to n want.
 abbrev pub Shows : ℕ → ℕ → (ℕ → Bool) → Type 0
 Shows n want w = (k : ℕ) → 1 ≤ k → k ≤ n → inWord want k ≡ w k
@@ -77,12 +55,12 @@ pub wanting-shows : (n : ℕ) (charges raised : Bool) (floor difference lowest :
     → Shows n (wantingWord n charges raised floor difference lowest cells) (wishes charges raised floor difference lowest cells)
 unfolding wantingWord
 wanting-shows n charges raised floor difference lowest cells ten k a b =
-    rw (ten-is n ten) (wordTo-in n k (wishes charges raised floor difference lowest cells) (omega arith) a b)
+    rw (looked-all n ten) (wordTo-in n k (wishes charges raised floor difference lowest cells) (omega arith) a b)
 
 -- ---- the start cell
 
 -- The start cell is a cell of the pack.
-pub start-cell : (n count : ℕ) → 1 ≤ n → n ≤ 10 → CellOf n (startCell n count)
+pub start-cell : (n count : ℕ) → 1 ≤ n → n ≤ 10 → InPack n (startCell n count)
 start-cell n count h t = record { ten = t; first = omega arith; last = mod-lt count h }
 
 pub next-start-is : (n count : ℕ) → 1 ≤ n → nextCell n (startCell n count) ≡ startCell n (suc count)
@@ -145,16 +123,6 @@ module _ (n K R : ℕ) where
       never-neighbours n K R (suc i) 0 ws (sym (bled-bit some ten ws i) ∙ p) (sym (bled-bit some ten ws (suc i)) ∙ q)
 
   module _ (some : 1 ≤ n) (ten : n ≤ 10) (w : ℕ → Bool) (ws : List (ℕ → Bool)) where
-    -- What is chosen from what was kept is what the history says.
-    pub choose-is : (want : ℕ) → Shows n want w → chooseNext n K R want (balanceOf n K R ws) ≡ bledWord n K R (w ∷ ws)
-    unfolding chosenWord bledWord restingWord
-    choose-is want shows =
-        let start = start-cell n (length ws) some ten in
-        ap wordOf (walk-same K (inWord want) (inWord (restingWord n R (runsOf n K R ws))) w (resting R (bleds n K R ws)) (order n (startCell n (length ws))) []
-        (λ k e.
-        let q = order-only n (startCell n (length ws)) k (start .first) (start .last) e in
-        (shows k (q .0) (q .1), rw (ten-is n ten) (wordTo-in n k (rested R (runsOf n K R ws)) (omega arith) (q .0) (q .1)) ∙ rested-is ws k (q .0) (omega arith))))
-
     -- The run counters of the longer history.
     pub runs-are : R < 255 → nextRuns (bledWord n K R (w ∷ ws)) (runsOf n K R ws) ≡ runsOf n K R (w ∷ ws)
     unfolding nextRuns
@@ -170,23 +138,35 @@ module _ (n K R : ℕ) where
         ∙ run-goes-on (has (suc i) (bledNow n K R (w ∷ ws))) (run (has (suc i)) (bleds n K R ws)) (let z = run-short n K R (suc i) ws in omega arith)
         ∙ sym (counter (w ∷ ws) i i<10))
 
-    -- One step on from what a history says is what the longer history says.
-    pub balance-step : R < 255 → (want : ℕ) → Shows n want w
-        → balanceStep n K R want (balanceOf n K R ws) ≡ balanceOf n K R (w ∷ ws)
-    balance-step short want shows =
-        rw (choose-is want shows, runs-are short, next-start-is n (length ws) some)
+  -- No run is left where no cell was bled at the latest sample.
+  runs-idle : 1 ≤ n → n ≤ 10 → R < 255 → (ws : List (ℕ → Bool)) → bledWord n K R ws ≡ 0 → runsOf n K R ws ≡ replicate 10 0
+  unfolding runsOf
+  runs-idle some ten short [] e = refl
+  runs-idle some ten short (w ∷ ws) e =
+      sym (runs-are some ten w ws short)
+      ∙ ap (λ (b : ℕ). nextRuns b (runsOf n K R ws)) e
+      ∙ runs-none (runsOf n K R ws) (runs-length ws)
 
--- No run is left where no cell was bled at the latest sample.
-pub runs-idle : (n K R : ℕ) → 1 ≤ n → n ≤ 10 → R < 255 → (ws : List (ℕ → Bool)) → bledWord n K R ws ≡ 0
-    → runsOf n K R ws ≡ replicate 10 0
-unfolding runsOf
-runs-idle n K R some ten short [] e = refl
-runs-idle n K R some ten short (w ∷ ws) e =
-    sym (runs-are n K R some ten w ws short)
-    ∙ ap (λ (b : ℕ). nextRuns b (runsOf n K R ws)) e
-    ∙ runs-none (runsOf n K R ws) (runs-length n K R ws)
+  module _ (some : 1 ≤ n) (ten : n ≤ 10) (limited : 1 ≤ R) (short : R < 255) (ws : List (ℕ → Bool)) where
+    -- Who rests by what was kept is who rests by the history: "bled at each of the R accepted samples just before".
+    pub resting-is : restingWord n R (bledWord n K R ws) (runsOf n K R ws) ≡ wordTo n (resting R (bleds n K R ws))
+    unfolding restingWord
+    resting-is =
+        let by-counters : wordTo n (rested R (runsOf n K R ws)) ≡ wordTo n (resting R (bleds n K R ws)) =
+        wordTo-same n _ _ (λ k a b. rested-is ws k a (omega arith)) in
+        by-test (eqb (bledWord n K R ws) 0)
+        (λ t. rw t (sym (ap (λ (l : List ℕ). wordTo n (rested R l)) (runs-idle some ten short ws (eqb-true (bledWord n K R ws) 0 t)) ∙ none-rest n R limited) ∙ by-counters))
+        (λ t. rw (t, looked-all n ten) by-counters)
 
--- At the load: start cell 1, no runs, nothing bled.
-pub balance-load : (n K R : ℕ) → 1 ≤ n → balanceOf n K R [] ≡ balance (record { 0 = 1 }) (replicate 10 0) 0
-unfolding runsOf bledWord
-balance-load n K R some = rw (mod-eq-of-lt {n = 0} {m = n} some)
+    -- What is chosen from what was kept is what the history says.
+    pub choose-is : (w : ℕ → Bool) (want : ℕ) → Shows n want w
+        → chosenWord n K want (restingWord n R (bledWord n K R ws) (runsOf n K R ws)) (startCell n (length ws)) ≡ bledWord n K R (w ∷ ws)
+    unfolding bledWord
+    choose-is w want shows =
+        let start = start-cell n (length ws) some ten in
+        let rest : ℕ = wordTo n (resting R (bleds n K R ws)) in
+        rw resting-is (chosen-walked n K want rest (startCell n (length ws)) start
+        ∙ ap wordOf (walk-same K (inWord want) (inWord rest) w (resting R (bleds n K R ws)) (order n (startCell n (length ws))) []
+        (λ k e.
+        let q = order-only n (startCell n (length ws)) k (start .first) (start .last) e in
+        (shows k (q .0) (q .1), wordTo-in n k (resting R (bleds n K R ws)) (omega arith) (q .0) (q .1)))))

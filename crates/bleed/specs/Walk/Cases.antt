@@ -2,7 +2,7 @@
 -- not do where n + 1 do.
 -- Assumes nothing.
 use mathlib.Core.Path.{_≡_, refl}
-use mathlib.Core.Bool.{Bool, true, _&&_}
+use mathlib.Core.Bool.{Bool, true, false, _&&_}
 use mathlib.Core.List.{List, [], _∷_, _++_, map, reverse}
 use mathlib.Core.Logic.{⊎-elim}
 use Prim.Native.Nat.{ℕ, zero, suc, _+_, _-_, _≤_, _<_}
@@ -12,11 +12,14 @@ use lib.Dec.{eqb}
 use lib.ListN.{take, replicate}
 use borrow.Author.Tests.{eqb-true}
 use Rattle.laws.specs.Tests.{and-left, and-right}
-use Rattle.laws.specs.Bits.{withBit}
+use Rattle.laws.specs.Bits.{hasBit, withBit}
 use Rattle.laws.specs.Latest.{lastAll, among}
 use Rattle.bleed.specs.Walk.Walk.{has, upFrom}
 use Rattle.bleed.specs.Walk.History.{wantsCell, bleds}
+use Rattle.bleed_wants.specs.Word.{inWord}
 use Rattle.bleed.specs.Walk.Word.{wordOf}
+use Rattle.bleed.specs.Walk.Steps.{isCell, chosenWord}
+use Rattle.bleed.specs.Walk.Balance.{runsOf, bledWord}
 
 -- The cells that want at each sample, in the order of time, as a history of wishes.
 abbrev pub history : List (List ℕ) → List (ℕ → Bool)
@@ -71,6 +74,26 @@ run-limit : bled 2 1 2 (replicate 5 (1 ∷ [])) ≡ (1 ∷ []) ∷ (1 ∷ []) �
 run-limit = refl
 
 -- ---- the words
+
+-- A history in which no cell wants is no wish of cell 1.
+wish-is-asked : lastAll 1 (wantsCell 1) (history ([] ∷ [])) ∷ lastAll 1 (wantsCell 1) (history ((1 ∷ []) ∷ [])) ∷ [] ≡ false ∷ true ∷ []
+wish-is-asked = refl
+
+-- What is kept after five samples with R 2 at which cell 1 always wants, and after three: its run, and the word of the bled.
+kept-after-five : runsOf 2 1 2 (history (replicate 5 (1 ∷ []))) ≡ 2 ∷ 0 ∷ 0 ∷ 0 ∷ 0 ∷ 0 ∷ 0 ∷ 0 ∷ 0 ∷ 0 ∷ []
+unfolding runsOf
+kept-after-five = refl
+
+word-after : map (λ (m : ℕ). bledWord 2 1 2 (history (replicate m (1 ∷ [])))) (0 ∷ 2 ∷ 3 ∷ 5 ∷ []) ≡ 0 ∷ 1 ∷ 0 ∷ 1 ∷ []
+unfolding bledWord withBit
+word-after = refl
+
+-- The walk's word: from cell 2 on, around the end, from no cell, and of more than ten cells.
+words-chosen :
+    chosenWord 3 1 7 0 2 ∷ chosenWord 3 1 1 0 3 ∷ chosenWord 3 1 7 0 4 ∷ chosenWord 3 1 7 0 0 ∷ chosenWord 11 1 7 0 1 ∷ chosenWord 10 5 0x3FF 1 1 ∷ []
+    ≡ 2 ∷ 1 ∷ 0 ∷ 0 ∷ 0 ∷ 0x2AA ∷ []
+unfolding chosenWord isCell inWord hasBit withBit
+words-chosen = refl
 
 -- Cell 1 is bit 0, cell 10 is bit 9.
 ends-of-a-word : wordOf (1 ∷ 10 ∷ []) ≡ 0x201

@@ -71,18 +71,18 @@ module _ (n K R : ℕ) where
     own w b bs s u e z = rw e (own-turn n K w (resting R (b ∷ bs)) k first last some ∙ rw (u, not-yet R b bs rests z))
 
     -- i samples before the latest the start cell is k, and k wants there, one sample earlier and at all since: it is bled there, or at the sample before.
-    turn : (i : ℕ) (ws : List (ℕ → Bool)) → lastAll (suc (suc i)) (wantsCell k) ws ≡ true → startCell n (length (drop (suc i) ws)) ≡ k
+    own-start : (i : ℕ) (ws : List (ℕ → Bool)) → lastAll (suc (suc i)) (wantsCell k) ws ≡ true → startCell n (length (drop (suc i) ws)) ≡ k
         → 0 < among (suc (suc i)) (has k) (bleds n K R ws)
-    turn i [] a e = clash refl (sym a)
-    turn zero (w ∷ []) a e = clash refl (sym (and-right (w k) false a))
-    turn zero (w ∷ w′ ∷ ws) a e =
+    own-start i [] a e = clash refl (sym a)
+    own-start zero (w ∷ []) a e = clash refl (sym (and-right (w k) false a))
+    own-start zero (w ∷ w′ ∷ ws) a e =
         let b : List ℕ = chosen n K w′ (resting R (bleds n K R ws)) (startCell n (length ws)) in
         by-test (has k b)
         (λ u. lt-of-lt-of-le (rw u (zero-lt-suc 0)) (no-less (has k (chosen n K w (resting R (b ∷ bleds n K R ws)) (startCell n (suc (length ws))))) (cond (has k b) 1 0)))
         (λ u. rw (own w b (bleds n K R ws) (startCell n (suc (length ws))) (and-left (w k) _ a) e u) (zero-lt-suc _))
-    turn (suc i) (w ∷ ws) a e =
+    own-start (suc i) (w ∷ ws) a e =
         lt-of-lt-of-le
-        (turn i ws (and-right (w k) _ a) e)
+        (own-start i ws (and-right (w k) _ a) e)
         (no-less (has k (chosen n K w (resting R (bleds n K R ws)) (startCell n (length ws)))) (among (suc (suc i)) (has k) (bleds n K R ws)))
 
     -- "A cell that wants bleeding at n + 1 consecutive accepted samples is bled in at least one of them, whatever the other
@@ -99,7 +99,7 @@ module _ (n K R : ℕ) where
         let turns : startCell n (length (drop (suc i) ws)) ≡ k =
         rw (length-drop, left, mul-add-mod-self-right (x / n) n (k - 1), mod-eq-of-lt {n = k - 1} {m = n} (omega arith)) (omega arith) in
         lt-of-lt-of-le
-        (turn i ws (lastAll-le (suc (suc i)) (suc n) (wantsCell k) ws (suc-le-suc i<n) a) turns)
+        (own-start i ws (lastAll-le (suc (suc i)) (suc n) (wantsCell k) ws (suc-le-suc i<n) a) turns)
         (among-le (suc (suc i)) (suc n) (has k) (bleds n K R ws) (suc-le-suc i<n))
 
     -- and at any n + 1 in a row, j samples before the latest.

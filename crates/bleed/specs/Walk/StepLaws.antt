@@ -4,21 +4,22 @@ use mathlib.Core.Path.{_≡_, refl, sym, ap, _∙_}
 use mathlib.Core.Bool.{Bool, true, false, cond, _&&_, _||_}
 use mathlib.Core.List.{List, [], _∷_, _++_}
 use mathlib.Core.Logic.{_⊎_, inl, inr, ⊎-elim}
-use Prim.Native.Nat.{ℕ, zero, suc, _+_, _-_, _≤_, _<_}
+use Prim.Native.Nat.{ℕ, zero, suc, _+_, _-_, _≤_, _<_, zero-le}
 use native.Mathlib.Nat.{not-suc-le-zero, zero-lt-suc, le-trans}
 use native.Mathlib.Numerals.{add-one}
 use native.Mathlib.Omega.{arith}
-use lib.Dec.{ltb, eqb}
+use lib.Dec.{leb, ltb, eqb}
+use lib.Count.{ones, onesIn}
 use lib.ListN.{length, length-append}
-use borrow.Author.Tests.{lt-ltb, le-ltb, ltb-true, ltb-false, eq-eqb, ne-eqb, eqb-true}
+use borrow.Author.Tests.{lt-ltb, le-ltb, ltb-true, ltb-false, le-leb, leb-true, eq-eqb, ne-eqb, eqb-true}
 use Rattle.laws.specs.Tests.{by-test, clash, test-ext, and-left, and-right, or-left, or-right, or-cases}
-use Rattle.laws.specs.Bits.{withBitIf}
+use Rattle.laws.specs.Bits.{hasBit, withBitIf, has-zero}
 use Rattle.bleed_wants.specs.Word.{inWord, in-none}
 use Rattle.bleed.specs.Resting.Steps.{nextCell}
 use Rattle.bleed.specs.Walk.Walk.{has, neighbours, hasNeighbour, upFrom, order, takes, walk, chosen}
 use Rattle.bleed.specs.Walk.WalkLaws.{neighbour-of, has-append, upFrom-only, order-only, at-most-K, no-neighbours, only-cells, walk-none}
 use Rattle.bleed.specs.Walk.Word.{withCellIf, wordOf, Small, Once, wordOf-bit, wordOf-ones, wordOf-few}
-use Rattle.bleed.specs.Walk.Steps.{chosenWord, CellOf, Chosen, besideTaken, mayTake, takeOne, takeFrom}
+use Rattle.bleed.specs.Walk.Steps.{isCell, chosenWord, Chosen, besideTaken, mayTake, takeOne, takeFrom}
 
 -- ---- the order of the walk is the next cell, again and again
 
@@ -153,36 +154,85 @@ module _ (n K want rest : ℕ) where
       ∙ walk-is cells (cond b (c ∷ t) t) (nextCell n c) (rw (← (w .0)) at (w .1)) (λ d e. sc d (or-right (eqb d c) (has d cells) e)) (oc .1)
       (small-more b c t (sc c mine) st) (once-more b c t (new c mine) ot) (new-more b c cells t (oc .0) new))
 
--- The whole walk of the code is the chosen word.
-pub chosen-is : (n K want rest start : ℕ) → CellOf n start → takeFrom n n K want rest start 0 ≡ chosenWord n K want rest start
-unfolding chosenWord
-chosen-is n K want rest start c =
-    let cells : Small (order n start) = λ k e. let q = order-only n start k (c .first) (c .last) e in (q .0, omega arith) in
-    rw (length-order n start (c .first) (c .last)) at
-    (walk-is n K want rest (order n start) [] start (order-way n start (c .first) (c .last)) cells (order-once n start (c .first))
-    (λ d e. clash refl (sym e)) tt (λ d e. refl))
+-- ---- the start cell
 
--- What `choose` promises of the walk's word.
-pub chosen-meets : (n K want rest start word : ℕ) → CellOf n start → word ≡ chosenWord n K want rest start → Chosen n K want rest start word
-unfolding chosenWord
-chosen-meets n K want rest start word c e =
-    let b : List ℕ = chosen n K (inWord want) (inWord rest) start in
-    let cells : Small b =
-    λ k h. let q = only-cells n K (inWord want) (inWord rest) start k (c .first) (c .last) h in let t = c .ten in (q .0, omega arith) in
+-- What it says that cell k is one of a pack's n cells.
+pub record InPack (n k : ℕ) : Type 0 where
+  pub ten : n ≤ 10
+  pub first : 1 ≤ k
+  pub last : k ≤ n
+
+cell-says : (n k : ℕ) → isCell n k ≡ true → InPack n k
+unfolding isCell
+cell-says n k e =
+    let both = and-left (ltb 0 k && leb k n) (leb n 10) e in
     record {
-      walked = e;
-      few = rw e (le-trans (wordOf-few b) (at-most-K n K (inWord want) (inWord rest) start));
-      apart = λ i p q.
-          no-neighbours n K (inWord want) (inWord rest) start (suc i)
-          (sym (wordOf-bit b i cells) ∙ (rw e at p)) (sym (wordOf-bit b (suc i) cells) ∙ (rw (e, add-one) at q));
+      ten = leb-true n 10 (and-right (ltb 0 k && leb k n) (leb n 10) e);
+      first = ltb-true 0 k (and-left (ltb 0 k) (leb k n) both);
+      last = leb-true k n (and-right (ltb 0 k) (leb k n) both);
     }
+
+cell-is : (n k : ℕ) → InPack n k → isCell n k ≡ true
+unfolding isCell
+cell-is n k c = rw (lt-ltb 0 k (c .first), le-leb k n (c .last), le-leb n 10 (c .ten))
+
+-- ---- the chosen word
+
+module _ (n K want rest start : ℕ) where
+  -- From a cell of the pack it is the word of the walk's cells,
+  pub chosen-walked : InPack n start → chosenWord n K want rest start ≡ wordOf (chosen n K (inWord want) (inWord rest) start)
+  unfolding chosenWord
+  chosen-walked c = rw (cell-is n start c)
+
+  -- and of any other start there is none.
+  pub chosen-nowhere : isCell n start ≡ false → chosenWord n K want rest start ≡ 0
+  unfolding chosenWord
+  chosen-nowhere e = rw e
+
+  -- The whole walk of the code is the chosen word.
+  pub chosen-is : isCell n start ≡ true → takeFrom n n K want rest start 0 ≡ chosenWord n K want rest start
+  chosen-is e =
+      let c = cell-says n start e in
+      let small : Small (order n start) = λ k h. let q = order-only n start k (c .first) (c .last) h in let t = c .ten in (q .0, omega arith) in
+      rw (chosen-walked c) (rw (length-order n start (c .first) (c .last)) at
+      (walk-is n K want rest (order n start) [] start (order-way n start (c .first) (c .last)) small (order-once n start (c .first))
+      (λ d h. clash refl (sym h)) tt (λ d h. refl)))
+
+  -- "Never more set bits than K",
+  chosen-few : ones (chosenWord n K want rest start) ≤ K
+  unfolding ones onesIn
+  chosen-few =
+      by-test (isCell n start)
+      (λ t. rw (chosen-walked (cell-says n start t)) (le-trans (wordOf-few (chosen n K (inWord want) (inWord rest) start)) (at-most-K n K (inWord want) (inWord rest) start)))
+      (λ t. rw (chosen-nowhere t) zero-le)
+
+  -- and no two neighbouring ones.
+  chosen-apart : (i : ℕ) → hasBit (chosenWord n K want rest start) i ≡ true → hasBit (chosenWord n K want rest start) (i + 1) ≡ true → ⊥
+  chosen-apart i p q =
+      by-test (isCell n start)
+      (λ t.
+      let c = cell-says n start t in
+      let e = chosen-walked c in
+      let b : List ℕ = chosen n K (inWord want) (inWord rest) start in
+      let small : Small b =
+      λ k h. let s = only-cells n K (inWord want) (inWord rest) start k (c .first) (c .last) h in let u = c .ten in (s .0, omega arith) in
+      no-neighbours n K (inWord want) (inWord rest) start (suc i)
+      (sym (wordOf-bit b i small) ∙ (rw e at p)) (sym (wordOf-bit b (suc i) small) ∙ (rw (e, add-one) at q)))
+      (λ t. clash p (ap (λ (w : ℕ). hasBit w i) (chosen-nowhere t) ∙ has-zero i))
+
+  -- What `choose` promises of the walk's word.
+  pub chosen-meets : (word : ℕ) → word ≡ chosenWord n K want rest start → Chosen n K want rest start word
+  chosen-meets word e =
+      record { walked = e; few = rw e chosen-few; apart = λ i p q. chosen-apart i (rw e at p) (rw e at q) }
 
 -- ---- the answer that needs no loop
 
 -- Nothing is chosen if no cell wants.
 pub chosen-none : (n K rest start : ℕ) → chosenWord n K 0 rest start ≡ 0
-unfolding chosenWord
-chosen-none n K rest start = ap wordOf (walk-none K (inWord 0) (inWord rest) in-none (order n start) [])
+chosen-none n K rest start =
+    by-test (isCell n start)
+    (λ t. chosen-walked n K 0 rest start (cell-says n start t) ∙ ap wordOf (walk-none K (inWord 0) (inWord rest) in-none (order n start) []))
+    (λ t. chosen-nowhere n K 0 rest start t)
 
 -- ---- one turn of the loop
 

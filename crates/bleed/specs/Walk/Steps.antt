@@ -1,9 +1,9 @@
 -- What the code works out at one sample, from the words of who wants and who rests.
 -- Assumes nothing.
 use mathlib.Core.Path.{_≡_}
-use mathlib.Core.Bool.{Bool, true, not, _&&_, _||_}
+use mathlib.Core.Bool.{Bool, true, not, cond, _&&_, _||_}
 use Prim.Native.Nat.{ℕ, zero, suc, _+_, _-_, _≤_}
-use lib.Dec.{ltb}
+use lib.Dec.{leb, ltb}
 use lib.Count.{ones}
 use Rattle.laws.specs.Bits.{hasBit}
 use Rattle.bleed_wants.specs.Word.{inWord}
@@ -11,15 +11,13 @@ use Rattle.bleed.specs.Resting.Steps.{nextCell}
 use Rattle.bleed.specs.Walk.Walk.{chosen}
 use Rattle.bleed.specs.Walk.Word.{withCellIf, wordOf}
 
--- The word of the walk's cells: which cells want and which rest are words too.
-unfoldable pub chosenWord : ℕ → ℕ → ℕ → ℕ → ℕ → ℕ
-chosenWord n K want rest start = wordOf (chosen n K (inWord want) (inWord rest) start)
+-- Cell k is one of the cells 1 to n, and they are ten at most.
+unfoldable pub isCell : ℕ → ℕ → Bool
+isCell n k = ltb 0 k && leb k n && leb n 10
 
--- The start cell is a cell of the pack, which has ten at most.
-pub record CellOf (n k : ℕ) : Type 0 where
-  pub ten : n ≤ 10
-  pub first : 1 ≤ k
-  pub last : k ≤ n
+-- The word of the walk's cells: which cells want and which rest are words too. A start that is no cell gives none.
+unfoldable pub chosenWord : ℕ → ℕ → ℕ → ℕ → ℕ → ℕ
+chosenWord n K want rest start = cond (isCell n start) (wordOf (chosen n K (inWord want) (inWord rest) start)) 0
 
 -- What is promised of the chosen word: it is the walk's, it has no more set bits than K, and no two neighbouring bits.
 pub record Chosen (n K want rest start word : ℕ) : Type 0 where

@@ -8,7 +8,8 @@ use Prim.Native.Nat.{ℕ, zero, suc, _+_, _-_, _≤_, _<_, zero-le}
 use native.Mathlib.Omega.{arith}
 use lib.Dec.{leb, ltb, eqb}
 use lib.ListN.{length}
-use borrow.Author.Tests.{not-true, lt-ltb, eq-eqb, eqb-true, eqb-false, ltb-true, ltb-false, leb-true, leb-false}
+use native.Mathlib.Nat.{not-suc-le-zero}
+use borrow.Author.Tests.{not-true, lt-ltb, eq-eqb, ne-eqb, eqb-true, eqb-false, ltb-true, ltb-false, leb-true, leb-false}
 use Rattle.laws.specs.Tests.{by-test, clash, and-left, and-right, or-left, or-right, or-cases}
 use Rattle.bleed.specs.Walk.Walk.{has, neighbours, hasNeighbour, upFrom, order, takes, walk, chosen}
 
@@ -207,3 +208,48 @@ own-turn n K wants rests k hk h some =
     let f : takes K wants rests k [] ≡ true = rw (e, lt-ltb 0 K some) in
     rw (order-own n k hk h) (first-taken K wants rests k (upFrom (suc k) (n - k) ++ upFrom 1 (k - 1)) f ∙ sym e))
     (λ e. rw e (by-test (has k (chosen n K wants rests k)) (λ u. clash (only-wanting n K wants rests k k u) e) (λ u. u)))
+
+-- ---- a cell that wants alone
+
+-- No cell but k is in the set.
+abbrev OnlyK : ℕ → List ℕ → Type 0
+OnlyK k l = (d : ℕ) → has d l ≡ true → d ≡ k
+
+head-only : (k d : ℕ) (l : List ℕ) → OnlyK k (d ∷ l) → d ≡ k
+head-only k d l h = h d (or-left (eqb d d) (has d l) (eq-eqb d d refl))
+
+only-no-neighbour : (k : ℕ) (l : List ℕ) → OnlyK k l → hasNeighbour k l ≡ false
+only-no-neighbour k [] h = refl
+only-no-neighbour k (d ∷ l) h =
+    let e : d ≡ k = head-only k d l h in
+    rw (ne-eqb (suc k) d (λ q. omega arith), ne-eqb (suc d) k (λ q. omega arith), only-no-neighbour k l (λ j u. h j (or-right (eqb j d) (has j l) u)))
+
+only-there : (k : ℕ) (l : List ℕ) → OnlyK k l → 0 < length l → has k l ≡ true
+only-there k [] h p = absurd (not-suc-le-zero p)
+only-there k (d ∷ l) h p = or-left (eqb k d) (has k l) (eq-eqb k d (sym (head-only k d l h)))
+
+-- A cell that wants while no other cell of the pack does is bled exactly if it does not rest.
+pub lone-bled : (n K : ℕ) (wants rests : ℕ → Bool) (start k : ℕ) → 0 < K → 1 ≤ start → start ≤ n → 1 ≤ k → k ≤ n → wants k ≡ true
+    → ((d : ℕ) → 1 ≤ d → d ≤ n → wants d ≡ true → d ≡ k) → has k (chosen n K wants rests start) ≡ not (rests k)
+lone-bled n K wants rests start k some begins ends first last want alone =
+    by-test (rests k)
+    (λ t. by-test (has k taken)
+    (λ u. clash (only-wanting n K wants rests start k u) (rw (want, t)))
+    (λ u. rw (u, t)))
+    (λ t.
+    let yes : has k taken ≡ true =
+    ⊎-elim
+    (λ u. u)
+    (⊎-elim
+    (λ u. clash u (only-no-neighbour k taken only-k))
+    (λ u. only-there k taken only-k (omega arith)))
+    (no-waste n K wants rests start k begins first last (rw (want, t))) in
+    rw (yes, t))
+  where
+    taken : List ℕ
+    taken = chosen n K wants rests start
+
+    only-k : OnlyK k (chosen n K wants rests start)
+    only-k d e =
+        let inside = only-cells n K wants rests start d begins ends e in
+        alone d (inside .0) (inside .1) (and-left (wants d) (not (rests d)) (only-wanting n K wants rests start d e))

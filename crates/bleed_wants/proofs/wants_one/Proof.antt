@@ -1,4 +1,4 @@
--- `wishes::wants_one` meets its contract: a test that fails ends it, and the last one is the answer. Assumes nothing.
+-- `bleed_wants::wants_one` meets its contract: a cell below the floor ends it, and the difference is the answer. Assumes nothing.
 use native.Mathlib.Omega.{arith}
 use borrow.Author.Needs.{needs}
 use borrow.Author.Tests.{lt-leb, le-leb}
@@ -8,13 +8,7 @@ use Rattle.bleed_wants.proofs.wants_one.Tie as tie
 
 returns : tie.Need-returns
 unfolding wants
-returns c = rw (c .before .if1 .taken, c .if2 .taken)
-
-returns-2 : tie.Need-returns-2
-unfolding wants
-returns-2 c =
-    let a = c .before .before .before .before .before .args in
-    rw (c .before .before .before .before .if1 .taken, c .before .before .before .if2 .left, lt-leb (a .floor .0) (a .cell .0) (omega arith))
+returns c = let a = c .before .before .before .args in rw (lt-leb (a .floor .0) (a .cell .0) (omega arith))
 
 cast-result : tie.Need-cast-result
 cast-result c = search needs
@@ -28,20 +22,11 @@ add-result c = search needs
 cast-result-3 : tie.Need-cast-result-3
 cast-result-3 c = search needs
 
-returns-3 : tie.Need-returns-3
+returns-2 : tie.Need-returns-2
 unfolding wants
-returns-3 c =
-    let a = c .before .before .before .before .before .before .before .before .args in
-    rw (
-      c .before .before .before .before .before .before .before .if1 .taken,
-      c .before .before .before .before .before .before .if2 .left,
-      le-leb (a .floor .0) (a .cell .0) (omega arith),
-    )
-
-returns-4 : tie.Need-returns-4
-unfolding wants
-returns-4 c = rw (c .if1 .left)
+returns-2 c =
+    let a = c .before .before .before .before .before .before .args in
+    rw (le-leb (a .floor .0) (a .cell .0) (omega arith))
 
 pub wants-one-spec : {M : Type 1} → statement M
-wants-one-spec =
-    tie.close (tie.spec returns returns-2 cast-result cast-result-2 add-result cast-result-3 returns-3 returns-4)
+wants-one-spec = tie.close (tie.spec returns cast-result cast-result-2 add-result cast-result-3 returns-2)

@@ -1,6 +1,6 @@
 -- `sent::sum_of` meets its contract. The loop's invariant: `sum` is the sum of the first `i` cells. Assumes nothing.
 use Rattle.bus_words.specs.Words.{sumTo, sum-none, sum-next}
-use Rattle.sample.specs.Cells.{looked-most}
+use Rattle.units.specs.Cells.{looked-most}
 use Prim.Native.Nat.{_-_, _*_, _≤_}
 use mathlib.Core.Path.{_≡_, ap, _∙_}
 use borrow.Author.Needs.{needs}

@@ -1,8 +1,9 @@
--- `raised::any_raised` meets its contract: the word is 0 exactly if none is raised. Assumes nothing.
+-- `guard_raised::any_raised` meets its contract: the word is 0 exactly if none is raised. Assumes nothing.
 use native.Mathlib.Omega.{arith}
 use mathlib.Core.Path.{sym}
+use Rattle.laws.specs.Words.{any-bits}
 use Rattle.protections.specs.Table.{protections}
-use Rattle.guard_raised.specs.Words.{raisedAt, raisedBits, anyRaised, any-bits}
+use Rattle.guard_raised.specs.Words.{raisedAt, raisedBits, anyRaised}
 use borrow.Author.Needs.{needs}
 use Rattle.guard_raised.proofs.any_raised.Statement.{statement}
 use Rattle.guard_raised.proofs.any_raised.Tie as tie

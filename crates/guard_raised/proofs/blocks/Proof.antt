@@ -1,11 +1,12 @@
--- `raised::blocks` meets its contract: no entry below i blocks the switch. Assumes nothing.
+-- `guard_raised::blocks` meets its contract: no entry below i blocks the switch. Assumes nothing.
 use mathlib.Core.Path.{_≡_, sym, _∙_}
 use Prim.Native.Nat.{_-_, _≤_}
 use mathlib.Core.Bool.{false}
 use lib.ListN.{getD}
+use Rattle.laws.specs.Words.{anyOf, any-none, any-next, any-yes}
 use Rattle.protections.specs.Table.{protections}
 use Rattle.guard.specs.Steps.{noProtection}
-use Rattle.guard_raised.specs.Words.{blocksOne, blocksAny, anyOf, any-none, any-next, any-yes}
+use Rattle.guard_raised.specs.Words.{blocksOne, blocksAny}
 use borrow.Author.Needs.{needs}
 use native.Mathlib.Omega.{arith}
 use Rattle.guard_raised.proofs.blocks.Statement.{statement}

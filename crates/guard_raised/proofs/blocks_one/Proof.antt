@@ -1,4 +1,4 @@
--- `raised::blocks_one` meets its contract. Assumes nothing.
+-- `guard_raised::blocks_one` meets its contract. Assumes nothing.
 use Rattle.guard_raised.specs.Words.{blocksOne}
 use borrow.Author.Needs.{needs}
 use Rattle.guard_raised.proofs.blocks_one.Statement.{statement}

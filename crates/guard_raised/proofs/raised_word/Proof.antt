@@ -1,8 +1,9 @@
--- `raised::raised_word` meets its contract: the word has the bits below i. Assumes nothing.
+-- `guard_raised::raised_word` meets its contract: the word has the bits below i. Assumes nothing.
 use mathlib.Core.Path.{_≡_}
 use Prim.Native.Nat.{_-_, _≤_}
+use Rattle.laws.specs.Words.{bitsOf, bits-none, bits-next}
 use Rattle.protections.specs.Table.{protections}
-use Rattle.guard_raised.specs.Words.{raisedAt, raisedBits, bitsOf, bits-none, bits-next}
+use Rattle.guard_raised.specs.Words.{raisedAt, raisedBits}
 use borrow.Author.Needs.{needs}
 use native.Mathlib.Omega.{arith}
 use Rattle.guard_raised.proofs.raised_word.Statement.{statement}
@@ -39,7 +40,7 @@ loop-less : tie.Need-loop-less Inv-loop μ-loop
 loop-less c = omega arith
 
 loop-again : tie.Need-loop-again Inv-loop μ-loop
-loop-again c = (omega arith, rw (c .with-bit-if .ensures, c .before .is-raised .ensures) (bits-next _ _ _ (c .before .before .before .before .loop .inv .1)))
+loop-again c = (omega arith, bits-next _ _ _ _ _ (c .before .before .before .before .loop .inv .1) (c .before .is-raised .ensures) (c .with-bit-if .ensures))
 
 returns : tie.Need-returns Inv-loop μ-loop
 unfolding raisedBits

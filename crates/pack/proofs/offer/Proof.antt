@@ -1,6 +1,6 @@
 -- `pack::offer` meets its contract. Assumes nothing.
 use mathlib.Core.Path.{sym, _∙_}
-use Rattle.pack.specs.Calls.{kept-ready, offer-accepted, offer-refused}
+use Rattle.pack.specs.Calls.{offer-accepted, offer-refused}
 use borrow.Author.Needs.{needs}
 use Rattle.pack.proofs.offer.Statement.{statement}
 use Rattle.pack.proofs.offer.Tie as tie
@@ -15,7 +15,7 @@ trim-requires : tie.Need-trim-requires
 trim-requires c κs = search needs
 
 accept-requires : tie.Need-accept-requires
-accept-requires c κs = kept-ready _ _ (c .before .before .before .before .before .pre) (sym (c .before .before .before .sample-verdict .ensures) ∙ c .before .enum-told .given .1)
+accept-requires c κs = search needs
 
 enum-told-2 : tie.Need-enum-told-2
 enum-told-2 c = search needs

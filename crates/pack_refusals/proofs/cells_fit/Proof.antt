@@ -1,7 +1,7 @@
 -- `samples::cells_fit` meets its contract. The loop's invariant: `ok` says whether the first `i` cells fit. Assumes nothing.
 use Prim.Native.Nat.{_-_, _≤_}
 use mathlib.Core.Path.{_≡_, refl, ap, _∙_}
-use Rattle.sample.specs.Cells.{looked-most}
+use Rattle.units.specs.Cells.{looked-most}
 use Rattle.pack_refusals.specs.Samples.{cellsFit, fits-next}
 use borrow.Author.Needs.{needs}
 use native.Mathlib.Omega.{arith}

@@ -12,13 +12,13 @@ is-charging-requires c κs = search needs
 any-raised-requires : tie.Need-any-raised-requires
 any-raised-requires c κs = search needs
 
-wanting-requires : tie.Need-wanting-requires
-wanting-requires c κs = search needs
+wanting-word-requires : tie.Need-wanting-word-requires
+wanting-word-requires c κs = search needs
 
 returns : tie.Need-returns
 unfolding wantWith
 returns c = rw (
-  c .wanting .ensures,
+  c .wanting-word .ensures,
   c .before .before .any-raised .ensures,
   c .before .before .before .is-charging .ensures,
   toZ-ofZ {w = w16} (record { sfits = c .before .before .before .before .before .struct-told .given .1 .1 .1 .1 .1 .0 .1 }),
@@ -27,4 +27,4 @@ returns c = rw (
 
 pub want-at-spec : {M : Type 1} → statement M
 want-at-spec =
-    tie.close (tie.spec is-charging-requires any-raised-requires wanting-requires returns)
+    tie.close (tie.spec is-charging-requires any-raised-requires wanting-word-requires returns)

@@ -1,7 +1,8 @@
--- `quantities::extremes_of` meets its contract: after i cells, e are the extremes of the first i. Assumes nothing.
+-- `sample::extremes_of` meets its contract: after i cells, e are the extremes of the first i. Assumes nothing.
 use mathlib.Core.Path.{_≡_, sym, ap, _∙_}
 use Prim.Native.Nat.{_-_, _≤_}
-use Rattle.sample.specs.Cells.{extremesOf, extremesTo, looked-most, extremes-none, extremes-first, extremes-next}
+use Rattle.units.specs.Cells.{looked-most}
+use Rattle.sample.specs.Cells.{extremesOf, extremesTo, extremes-none, extremes-first, extremes-next}
 use borrow.Author.Needs.{needs}
 use native.Mathlib.Omega.{arith}
 use Rattle.sample.proofs.extremes_of.Statement.{statement}

@@ -1,4 +1,4 @@
--- `quantities::larger_of` meets its contract. Assumes nothing.
+-- `sample::larger_of` meets its contract. Assumes nothing.
 use borrow.Author.Tests.{lt-ltb, le-ltb}
 use Rattle.sample.proofs.larger_of.Statement.{statement}
 use Rattle.sample.proofs.larger_of.Tie as tie

@@ -1,4 +1,4 @@
--- `quantities::measured` meets its contract: each arm is the quantity of its name. Assumes nothing.
+-- `sample::measured` meets its contract: each arm is the quantity of its name. Assumes nothing.
 use native.Mathlib.Omega.{arith}
 use mathlib.Core.Path.{ap}
 use Rattle.units.specs.Levels.{level}

@@ -1,4 +1,4 @@
--- `quantities::no_sample` meets its contract. Assumes nothing.
+-- `sample::no_sample` meets its contract. Assumes nothing.
 use mathlib.Core.Path.{refl}
 use Rattle.sample.proofs.no_sample.Statement.{statement}
 use Rattle.sample.proofs.no_sample.Tie as tie

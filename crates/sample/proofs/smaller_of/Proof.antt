@@ -1,4 +1,4 @@
--- `quantities::smaller_of` meets its contract. Assumes nothing.
+-- `sample::smaller_of` meets its contract. Assumes nothing.
 use borrow.Author.Tests.{lt-ltb, le-ltb}
 use Rattle.sample.proofs.smaller_of.Statement.{statement}
 use Rattle.sample.proofs.smaller_of.Tie as tie

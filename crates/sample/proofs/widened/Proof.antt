@@ -1,4 +1,4 @@
--- `quantities::widened` meets its contract. Assumes nothing.
+-- `sample::widened` meets its contract. Assumes nothing.
 use Rattle.sample.specs.Cells.{widen}
 use borrow.Author.Needs.{needs}
 use Rattle.sample.proofs.widened.Statement.{statement}

@@ -1,4 +1,4 @@
--- `bleed::beside_taken` meets its contract. Assumes nothing.
+-- `bleed::chooser::beside_taken` meets its contract. Assumes nothing.
 use borrow.Author.Needs.{needs}
 use borrow.Author.Tests.{lt-ltb, le-ltb}
 use mathlib.Core.Path.{sym, _∙_}

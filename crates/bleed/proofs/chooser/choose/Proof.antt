@@ -1,11 +1,12 @@
--- `bleed::choose` meets its contract. The loop's invariant: what the cells that are left make of the word is what all cells make
+-- `bleed::chooser::choose` meets its contract. The loop's invariant: what the cells that are left make of the word is what all cells make
 -- of the empty one, so that at the end the word is the whole walk's.
 -- Assumes nothing.
 use mathlib.Core.Path.{_≡_, refl, sym, _∙_}
 use native.Mathlib.Omega.{arith}
 use borrow.Author.Needs.{needs}
+use borrow.Author.Tests.{not-true, not-false}
 use Rattle.bleed.specs.Walk.Steps.{takeFrom}
-use Rattle.bleed.specs.Walk.StepLaws.{take-on, take-none, chosen-is, chosen-meets, chosen-none}
+use Rattle.bleed.specs.Walk.StepLaws.{take-on, take-none, chosen-is, chosen-nowhere, chosen-meets, chosen-none}
 use Rattle.bleed.proofs.chooser.choose.Statement.{statement}
 use Rattle.bleed.proofs.chooser.choose.Tie as tie
 
@@ -17,7 +18,13 @@ abbrev μ-loop : tie.MeasureT-loop
 μ-loop n most want rest taken₀ cell₀ left₀ taken cell left = left
 
 returns : tie.Need-returns Inv-loop μ-loop
-returns c = chosen-meets _ _ _ _ _ _ (c .before .pre) (rw (c .if1 .taken) (sym (chosen-none _ _ _ _)))
+returns c = chosen-meets _ _ _ _ _ _ (rw (c .if1 .taken) (sym (chosen-none _ _ _ _)))
+
+is-cell-requires : tie.Need-is-cell-requires Inv-loop μ-loop
+is-cell-requires c κs = search needs
+
+returns-2 : tie.Need-returns-2 Inv-loop μ-loop
+returns-2 c = chosen-meets _ _ _ _ _ _ (sym (chosen-nowhere _ _ _ _ _ (sym (c .before .is-cell .ensures) ∙ not-true _ (c .if2 .taken))))
 
 loop-holds : tie.Need-loop-holds Inv-loop μ-loop
 loop-holds c = refl
@@ -25,8 +32,8 @@ loop-holds c = refl
 take-one-requires : tie.Need-take-one-requires Inv-loop μ-loop
 take-one-requires c κs = search needs
 
-next-start-requires : tie.Need-next-start-requires Inv-loop μ-loop
-next-start-requires c κs = search needs
+next-cell-requires : tie.Need-next-cell-requires Inv-loop μ-loop
+next-cell-requires c κs = search needs
 
 sub-left : tie.Need-sub-left Inv-loop μ-loop
 sub-left c = search needs
@@ -36,14 +43,14 @@ loop-less c = omega arith
 
 loop-again : tie.Need-loop-again Inv-loop μ-loop
 loop-again c =
-    rw (c .next-start .ensures, c .before .take-one .ensures)
+    rw (c .next-cell .ensures, c .before .take-one .ensures)
     (sym (take-on _ _ _ _ _ _ _ (c .before .before .loop-test .taken)) ∙ c .before .before .before .loop .inv)
 
-returns-2 : tie.Need-returns-2 Inv-loop μ-loop
-returns-2 c =
+returns-3 : tie.Need-returns-3 Inv-loop μ-loop
+returns-3 c =
     let e : c .before .loop .left ≡ 0 = omega arith in
-    chosen-meets _ _ _ _ _ _ (c .before .before .before .pre)
-    (sym (take-none _ _ _ _ _ _) ∙ (rw e at (c .before .loop .inv)) ∙ chosen-is _ _ _ _ _ (c .before .before .before .pre))
+    chosen-meets _ _ _ _ _ _
+    (sym (take-none _ _ _ _ _ _) ∙ (rw e at (c .before .loop .inv)) ∙ chosen-is _ _ _ _ _ (sym (c .before .before .before .is-cell .ensures) ∙ not-false _ (c .before .before .if2 .left)))
 
 pub choose-spec : {M : Type 1} → statement M
 choose-spec =
@@ -52,10 +59,12 @@ choose-spec =
     Inv-loop
     μ-loop
     returns
+    is-cell-requires
+    returns-2
     loop-holds
     take-one-requires
-    next-start-requires
+    next-cell-requires
     sub-left
     loop-less
     loop-again
-    returns-2)
+    returns-3)

@@ -1,4 +1,4 @@
--- `bleed::take_one` meets its contract. Assumes nothing.
+-- `bleed::chooser::take_one` meets its contract. Assumes nothing.
 use borrow.Author.Needs.{needs}
 use mathlib.Core.Path.{sym}
 use Rattle.bleed.specs.Walk.Steps.{takeOne}

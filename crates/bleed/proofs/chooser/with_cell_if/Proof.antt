@@ -1,4 +1,4 @@
--- `bleed::with_cell_if` meets its contract. Assumes nothing.
+-- `bleed::chooser::with_cell_if` meets its contract. Assumes nothing.
 use borrow.Author.Needs.{needs}
 use borrow.Author.Tests.{lt-ltb, le-ltb}
 use Rattle.bleed.specs.Walk.Word.{withCellIf}

@@ -1,4 +1,4 @@
--- `turns::next_runs` meets its contract. The loop's invariant: the first i counters are stepped, the others are as they were.
+-- `bleed::resting::next_runs` meets its contract. The loop's invariant: the first i counters are stepped, the others are as they were.
 -- Assumes nothing.
 use Prim.Native.Nat.{_≤_, _-_}
 use mathlib.Core.Path.{_≡_, refl, sym}

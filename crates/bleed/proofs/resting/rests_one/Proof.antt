@@ -1,4 +1,4 @@
--- `turns::rests_one` meets its contract. Assumes nothing.
+-- `bleed::resting::rests_one` meets its contract. Assumes nothing.
 use borrow.Author.Tests.{lt-ltb, le-ltb}
 use Rattle.bleed.proofs.resting.rests_one.Statement.{statement}
 use Rattle.bleed.proofs.resting.rests_one.Tie as tie

@@ -1,4 +1,4 @@
--- `alarms::cleared` meets its contract. Assumes nothing.
+-- `guard::all::cleared` meets its contract. Assumes nothing.
 use mathlib.Core.Path.{refl}
 use Rattle.guard.specs.Steps.{clear}
 use Rattle.guard.proofs.all.cleared.Statement.{statement}

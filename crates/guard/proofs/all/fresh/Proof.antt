@@ -1,4 +1,4 @@
--- `alarms::fresh` meets its contract: the entries below i are clear with their limits. Assumes nothing.
+-- `guard::all::fresh` meets its contract: the entries below i are clear with their limits. Assumes nothing.
 use mathlib.Core.Path.{_≡_, refl, _∙_}
 use Prim.Native.Nat.{_-_, _≤_}
 use Rattle.laws.specs.Each.{eachTo}

@@ -1,9 +1,9 @@
--- `alarms::step_all` meets its contract: the entries below i are stepped, the others as they were. Assumes nothing.
+-- `guard::all::step_all` meets its contract: the entries below i are stepped, the others as they were. Assumes nothing.
 use mathlib.Core.Path.{_≡_, refl}
 use Prim.Native.Nat.{_-_, _≤_}
 use Rattle.laws.specs.Each.{eachTo, each-next}
 use Rattle.protections.specs.Table.{protections}
-use Rattle.guard.specs.Steps.{noProtection, stepWith, within-next, step-all-is}
+use Rattle.guard.specs.Steps.{noProtection, stepWith, step-all-is}
 use borrow.Author.Needs.{needs}
 use native.Mathlib.Omega.{arith}
 use Rattle.guard.proofs.all.step_all.Statement.{statement}
@@ -29,7 +29,7 @@ cast-t13 : tie.Need-cast-t13 Inv-loop μ-loop
 cast-t13 c = search needs
 
 step-at-requires : tie.Need-step-at-requires Inv-loop μ-loop
-step-at-requires c κs = within-next _ _ _ _ _ (c .before .before .loop .inv .1) (c .before .before .before .pre) (omega arith)
+step-at-requires c κs = search needs
 
 mul-out : tie.Need-mul-out Inv-loop μ-loop
 mul-out c = search needs

@@ -1,4 +1,4 @@
--- `alarms::step_at` meets its contract. Assumes nothing.
+-- `guard::all::step_at` meets its contract. Assumes nothing.
 use Rattle.guard.specs.Steps.{stepWith}
 use borrow.Author.Needs.{needs}
 use Rattle.guard.proofs.all.step_at.Statement.{statement}

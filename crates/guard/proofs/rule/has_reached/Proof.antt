@@ -1,4 +1,4 @@
--- `guard::has_reached` meets its contract. Assumes nothing.
+-- `guard::rule::has_reached` meets its contract. Assumes nothing.
 use mir.Syntax.{w32}
 use mir.Facts.{toZ-ofZ}
 use borrow.Author.Needs.{needs}

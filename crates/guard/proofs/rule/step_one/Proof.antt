@@ -1,4 +1,4 @@
--- `guard::step_one` meets its contract. Assumes nothing.
+-- `guard::rule::step_one` meets its contract. Assumes nothing.
 use Rattle.guard.specs.Steps.{stepOne}
 use borrow.Author.Needs.{needs}
 use Rattle.guard.proofs.rule.step_one.Statement.{statement}

@@ -1,7 +1,7 @@
--- `quantities::looked_at` meets its contract. Assumes nothing.
+-- `units::looked_at` meets its contract. Assumes nothing.
 use borrow.Author.Tests.{lt-ltb, le-ltb}
-use Rattle.sample.proofs.looked_at.Statement.{statement}
-use Rattle.sample.proofs.looked_at.Tie as tie
+use Rattle.units.proofs.looked_at.Statement.{statement}
+use Rattle.units.proofs.looked_at.Tie as tie
 
 returns : tie.Need-returns
 returns c = rw (lt-ltb _ _ (c .if1 .taken))

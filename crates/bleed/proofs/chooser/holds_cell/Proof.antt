@@ -1,9 +1,9 @@
--- `bleed::holds` meets its contract. Assumes nothing.
+-- `bleed::chooser::holds_cell` meets its contract. Assumes nothing.
 use borrow.Author.Needs.{needs}
 use borrow.Author.Tests.{lt-ltb, le-ltb}
 use Rattle.bleed_wants.specs.Word.{inWord}
-use Rattle.bleed.proofs.chooser.holds.Statement.{statement}
-use Rattle.bleed.proofs.chooser.holds.Tie as tie
+use Rattle.bleed.proofs.chooser.holds_cell.Statement.{statement}
+use Rattle.bleed.proofs.chooser.holds_cell.Tie as tie
 
 sub-has-bit : tie.Need-sub-has-bit
 sub-has-bit c = search needs
@@ -19,5 +19,5 @@ returns-2 : tie.Need-returns-2
 unfolding inWord
 returns-2 c = rw (le-ltb _ _ (c .if1 .left))
 
-pub holds-spec : {M : Type 1} → statement M
-holds-spec = tie.close (tie.spec sub-has-bit has-bit-requires returns returns-2)
+pub holds-cell-spec : {M : Type 1} → statement M
+holds-cell-spec = tie.close (tie.spec sub-has-bit has-bit-requires returns returns-2)

@@ -1,9 +1,9 @@
--- `turns::next_run` meets its contract. Assumes nothing.
+-- `laws::next_run` meets its contract. Assumes nothing.
 use borrow.Author.Needs.{needs}
 use borrow.Author.Tests.{lt-ltb, le-ltb}
-use Rattle.bleed.specs.Resting.Steps.{nextRun}
-use Rattle.bleed.proofs.resting.next_run.Statement.{statement}
-use Rattle.bleed.proofs.resting.next_run.Tie as tie
+use Rattle.laws.specs.Latest.{nextRun}
+use Rattle.laws.proofs.next_run.Statement.{statement}
+use Rattle.laws.proofs.next_run.Tie as tie
 
 add-result : tie.Need-add-result
 add-result c = search needs

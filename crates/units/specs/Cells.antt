@@ -1,0 +1,23 @@
+-- How many cells a number stands for: a pack has ten at most.
+-- Assumes nothing.
+use mathlib.Core.Path.{_≡_}
+use mathlib.Core.Bool.{cond}
+use Prim.Native.Nat.{ℕ, _≤_}
+use native.Mathlib.Omega.{arith}
+use lib.Dec.{ltb}
+use borrow.Author.Tests.{ltb-true, ltb-false}
+use Rattle.laws.specs.Tests.{by-test}
+
+-- How many entries of an array of ten are cells, if a page or a sample says `count`: a larger number stands for ten.
+abbrev pub lookedAt : ℕ → ℕ
+lookedAt count = cond (ltb count 10) count 10
+
+pub looked-most : (count : ℕ) → lookedAt count ≤ 10
+looked-most count = by-test (ltb count 10) (λ e. rw e (let h = ltb-true count 10 e in omega arith)) (λ e. rw e (omega arith))
+
+-- Of ten cells or fewer, all are looked at.
+pub looked-all : (count : ℕ) → count ≤ 10 → lookedAt count ≡ count
+looked-all count h =
+    by-test (ltb count 10)
+    (λ e. rw e)
+    (λ e. let q = ltb-false count 10 e in rw e (let z : 10 ≡ count = omega arith in z))
