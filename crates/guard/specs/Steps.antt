@@ -63,7 +63,7 @@ stepOne d value p =
     record {
       limits = p .limits;
       alarm =
-          nextAlarm (p .limits .n) (p .limits .m) (reaches d (p .limits .trip) value) (reaches (back d) (p .limits .release) value)
+          nextAlarm (p .limits .n) (p .limits .m) (reaches d (p .limits .trip .0) value) (reaches (back d) (p .limits .release .0) value)
           (p .alarm);
     }
 
@@ -115,7 +115,7 @@ step-all-is e s ps out i n q = rw (← n) q
 module _ (row : Row) (l : Limits) (g : GoodLimits (row .direction) l) where
   -- It never trips and qualifies at one sample.
   pub never-at-once : (s : Sample) → trips row l s ≡ true → qualifies row l s ≡ false
-  never-at-once s = never-both (row .direction) (l .trip) (l .release) (measure (row .quantity) s) (g .ordered)
+  never-at-once s = never-both (row .direction) (l .trip .0) (l .release .0) (measure (row .quantity) s) (g .ordered)
 
   n-byte : l .n ≤ 255
   n-byte = let h = g .n-most in omega arith
@@ -143,11 +143,11 @@ module _ (row : Row) (l : Limits) (g : GoodLimits (row .direction) l) where
       runs.run-most (l .n) (l .m) 240 (runs.alarmOf (l .n) (l .m) (trips row l) (qualifies row l) h) (g .n-most) (g .m-most) (protection-within h)
 
   -- A sample between the two levels ends both runs: whatever the history was, it stays clear or raised and its run is none.
-  pub between-ends : (s : Sample) (h : List Sample) → between (row .direction) (l .trip) (l .release) (measure (row .quantity) s) ≡ true
+  pub between-ends : (s : Sample) (h : List Sample) → between (row .direction) (l .trip .0) (l .release .0) (measure (row .quantity) s) ≡ true
       → (raised row l (s ∷ h) ≡ raised row l h) × (runs.runOf (protectionOf row l (s ∷ h) .alarm) ≡ 0)
   unfolding raised protectionOf
   between-ends s h b =
-      let e = between-neither (row .direction) (l .trip) (l .release) (measure (row .quantity) s) b in
+      let e = between-neither (row .direction) (l .trip .0) (l .release .0) (measure (row .quantity) s) b in
       runs.neither-ends (l .n) (l .m) (trips row l) (qualifies row l) (g .n-least) n-byte (g .m-least) m-byte never-at-once s h (e .0) (e .1)
 
 pub protection-raised : (row : Row) (l : Limits) (h : List Sample) → runs.isRaised (protectionOf row l h .alarm) ≡ raised row l h

@@ -7,6 +7,7 @@ use laws::next_run;
 use protections::Direction;
 use protections::Limits;
 use protections::back_of;
+use units::Level;
 
 // Clear, with its run of tripping samples; or raised, with its run of releasing samples.
 pub enum Alarm {
@@ -20,12 +21,12 @@ pub struct Protection {
     pub alarm: Alarm,
 }
 
-fn has_reached(d: Direction, level: i32, value: i32) -> bool
-    ensures { λ r. ⌜ r ≡ reaches d level value ⌝ }
+fn has_reached(d: Direction, level: Level, value: Level) -> bool
+    ensures { λ r. ⌜ r ≡ reaches d (level .0) (value .0) ⌝ }
 {
     match d {
-        Direction::Above => level <= value,
-        Direction::Below => value <= level,
+        Direction::Above => level.0 <= value.0,
+        Direction::Below => value.0 <= level.0,
     }
 }
 
@@ -54,8 +55,8 @@ fn next_alarm(n: u8, m: u8, trips: bool, qualifies: bool, a: Alarm) -> Alarm
 }
 
 // One protection, one sample on: `value` is what it looks at in the sample.
-pub fn step_one(d: Direction, value: i32, p: Protection) -> Protection
-    ensures { λ r. ⌜ r ≡ stepOne d value p ⌝ }
+pub fn step_one(d: Direction, value: Level, p: Protection) -> Protection
+    ensures { λ r. ⌜ r ≡ stepOne d (value .0) p ⌝ }
 {
     let limits = p.limits;
     let a = p.alarm;

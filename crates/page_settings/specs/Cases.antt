@@ -6,6 +6,7 @@ use Prim.Native.Nat.{ℕ}
 use lib.ListN.{replicate}
 use lib.IntN.{ℤ, pos, negsuc}
 use Rattle.laws.specs.Numbered.{listOf, listFrom}
+use Rattle.units.specs.Levels.{level}
 use Rattle.units.specs.Signed.{signedOf}
 use Rattle.crc.specs.CheckByte.{timesX, timesXs, withByte, remainder, checkByte}
 use Rattle.protections.specs.Table.{rowAt, table}
@@ -42,7 +43,7 @@ levels-are = refl
 -- ---- the worked page
 
 abbrev limits : ℤ → ℤ → ℕ → ℕ → ℕ → Limits
-limits trip release n m mask = record { trip = trip; release = release; n = n; m = m; mask = mask }
+limits trip release n m mask = record { trip = level trip; release = level release; n = n; m = m; mask = mask }
 
 abbrev pub workedRules : Rules
 workedRules =

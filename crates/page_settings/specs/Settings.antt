@@ -6,6 +6,7 @@ use Prim.Native.Nat.{ℕ, _+_}
 use lib.ListN.{replicate}
 use lib.IntN.{ℤ, pos, _+ℤ_, _*ℤ_}
 use Rattle.laws.specs.Numbered.{listOf}
+use Rattle.units.specs.Levels.{level}
 use Rattle.units.specs.Signed.{signedOf}
 use Rattle.protections.specs.Limits.{noLimits}
 use Rattle.protections.specs.Table.{rowAt, protections}
@@ -38,8 +39,8 @@ unfoldable pub limitsFrom : List ℕ → ℕ → Limits
 limitsFrom b p =
     let at = tripWord p in
     record {
-      trip = sampleLevel (rowAt p .quantity) (wordAt b at);
-      release = sampleLevel (rowAt p .quantity) (wordAt b (at + 1));
+      trip = level (sampleLevel (rowAt p .quantity) (wordAt b at));
+      release = level (sampleLevel (rowAt p .quantity) (wordAt b (at + 1)));
       n = wordAt b (at + 2);
       m = wordAt b (at + 3);
       mask = wordAt b (at + 4);

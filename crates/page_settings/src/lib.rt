@@ -1,6 +1,7 @@
 // What an accepted settings page says, in the units of the samples.
 ghost use mathlib.Core.Path.{_≡_};
 ghost use Prim.Native.Nat.{_≤_, _<_};
+ghost use Rattle.units.specs.Levels.{level};
 ghost use Rattle.protections.specs.Limits.{noLimits};
 ghost use Rattle.protections.specs.Table.{protections};
 ghost use Rattle.page_words.specs.Ranges.{wordAt};
@@ -17,6 +18,7 @@ use protections::PROTECTIONS;
 use protections::Quantity;
 use protections::row_of;
 use refusals::Verdict;
+use units::Level;
 use units::MilliVolts;
 use units::ProtectionNo;
 use units::signed_of;
@@ -60,14 +62,15 @@ fn in_degrees(quantity: Quantity) -> bool
 }
 
 // The trip or release level that a word stands for, in the sample's unit.
-fn sample_level(quantity: Quantity, x: u16) -> i32
-    ensures { λ r. ⌜ r ≡ sampleLevel quantity x ⌝ }
+fn sample_level(quantity: Quantity, x: u16) -> Level
+    ensures { λ r. ⌜ r ≡ level (sampleLevel quantity x) ⌝ }
 {
     let z = level_of(quantity, x);
     if in_degrees(quantity) {
-        return 10 * z + 2730;
+        let tenths = 10 * z.0 + 2730;
+        return Level(tenths);
     }
-    z
+    Level(z.0)
 }
 
 // A word that fits a byte.
@@ -104,8 +107,8 @@ fn no_limits() -> Limits
     ensures { λ r. ⌜ r ≡ noLimits ⌝ }
 {
     Limits {
-        trip: 0,
-        release: 0,
+        trip: Level(0),
+        release: Level(0),
         n: 0,
         m: 0,
         mask: 0,

@@ -1,12 +1,14 @@
 // The words of the settings page one by one: reading them, the ranges that they have, the levels that they stand for.
 ghost use mathlib.Core.Path.{_≡_};
 ghost use lib.ListN.{getD};
+ghost use Rattle.units.specs.Levels.{pageLevel};
 ghost use Rattle.units.specs.Signed.{signedOf};
 ghost use Rattle.protections.specs.Direction.{inOrder};
 ghost use Rattle.page_words.specs.Ranges.{wordAt, within, degreesFit, levelFits, levelOf};
 use laws::wide;
 use protections::Direction;
 use protections::Quantity;
+use units::PageLevel;
 use units::signed_of;
 
 // A byte of the page; past its end it reads as 0.
@@ -70,24 +72,24 @@ fn signed(x: u16) -> i32
 }
 
 // A trip or release word as the number that it stands for on the page: mV, mA or degrees.
-pub fn level_of(quantity: Quantity, x: u16) -> i32
-    ensures { λ r. ⌜ r ≡ levelOf quantity x ⌝ }
+pub fn level_of(quantity: Quantity, x: u16) -> PageLevel
+    ensures { λ r. ⌜ r ≡ pageLevel (levelOf quantity x) ⌝ }
 {
     match quantity {
-        Quantity::HighestCell => x as i32,
-        Quantity::LowestCell => x as i32,
-        Quantity::Current => signed(x),
-        Quantity::Temperature1 => signed(x),
-        Quantity::Temperature2 => signed(x),
+        Quantity::HighestCell => PageLevel(x as i32),
+        Quantity::LowestCell => PageLevel(x as i32),
+        Quantity::Current => PageLevel(signed(x)),
+        Quantity::Temperature1 => PageLevel(signed(x)),
+        Quantity::Temperature2 => PageLevel(signed(x)),
     }
 }
 
 // Whether trip and release stand in the order of the direction.
-pub fn in_order(direction: Direction, trip: i32, release: i32) -> bool
-    ensures { λ r. ⌜ r ≡ inOrder direction trip release ⌝ }
+pub fn in_order(direction: Direction, trip: PageLevel, release: PageLevel) -> bool
+    ensures { λ r. ⌜ r ≡ inOrder direction (trip .0) (release .0) ⌝ }
 {
     match direction {
-        Direction::Above => release < trip,
-        Direction::Below => trip < release,
+        Direction::Above => release.0 < trip.0,
+        Direction::Below => trip.0 < release.0,
     }
 }

@@ -6,6 +6,7 @@ use mathlib.Core.List.{List}
 use Prim.Native.Nat.{ℕ, _≤_, _<_}
 use lib.IntN.{pos}
 use lib.ListN.{getD}
+use Rattle.units.specs.Levels.{level}
 use Rattle.protections.specs.declared.Direction.{Direction}
 use Rattle.protections.specs.declared.Limits.{Limits}
 use Rattle.protections.specs.Direction.{inOrder}
@@ -13,7 +14,7 @@ use Rattle.protections.specs.Table.{rowAt, protections}
 
 -- What stands where no page says anything.
 abbrev pub noLimits : Limits
-noLimits = record { trip = pos 0; release = pos 0; n = 0; m = 0; mask = 0 }
+noLimits = record { trip = level (pos 0); release = level (pos 0); n = 0; m = 0; mask = 0 }
 
 -- The limits of protection p, out of those of all.
 abbrev pub limitsAt : List Limits → ℕ → Limits
@@ -36,7 +37,7 @@ pub record GoodLimits (d : Direction) (l : Limits) : Type 0 where
   pub m-least : leastRun ≤ l .m
   pub m-most : l .m ≤ mostRun
   pub mask-most : l .mask ≤ mostMask
-  pub ordered : inOrder d (l .trip) (l .release) ≡ true
+  pub ordered : inOrder d (l .trip .0) (l .release .0) ≡ true
 
 -- The limits of each protection are good by its row of the table.
 abbrev pub AllGood : List Limits → Type 0

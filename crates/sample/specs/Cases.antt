@@ -40,14 +40,6 @@ pub quantities
 unfolding listOf listFrom measure extremesOf bestOf rowAt table
 quantities = refl
 
--- Between the two levels, neither of them included: trip 4250 and release 4150 upward, trip 2500 and release 2600 downward.
-pub between-levels
-    : (map (between Above (pos 4250) (pos 4150)) (pos 4150 ∷ pos 4151 ∷ pos 4249 ∷ pos 4250 ∷ [])
-    ∷ map (between Below (pos 2500) (pos 2600)) (pos 2500 ∷ pos 2501 ∷ pos 2599 ∷ pos 2600 ∷ [])
-    ∷ [])
-    ≡ ((false ∷ true ∷ true ∷ false ∷ []) ∷ (false ∷ true ∷ true ∷ false ∷ []) ∷ [])
-between-levels = refl
-
 -- A count over ten looks at ten entries; of no cell, both are 0.
 abbrev ten : List MilliVolts
 ten = cellsFrom (4000 ∷ 4020 ∷ 3990 ∷ 5999 ∷ 1 ∷ 4000 ∷ 4000 ∷ 4000 ∷ 4000 ∷ 6000 ∷ [])

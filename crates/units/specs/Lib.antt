@@ -2,5 +2,7 @@
 pub mod Signed
 -- To be believed: how many of ten entries are cells.
 pub mod Cells
+-- A number as a level.
+pub mod Levels
 -- Computed cases: document 01's -2 and -32768, and the ends of both halves.
 pub mod Cases

@@ -1,6 +1,4 @@
 -- `page_faults::order_met` meets its contract. Assumes nothing.
-use mir.Syntax.{w32}
-use mir.Facts.{toZ-ofZ}
 use Rattle.page_faults.specs.Met.{orderMet}
 use borrow.Author.Needs.{needs}
 use Rattle.page_faults.proofs.order_met.Statement.{statement}
@@ -22,8 +20,6 @@ returns : tie.Need-returns
 unfolding orderMet
 returns c =
     rw (
-      toZ-ofZ {w = w32} (record { sfits = c .before .before .level-of .ok }),
-      toZ-ofZ {w = w32} (record { sfits = c .before .level-of2 .ok }),
       c .before .before .level-of .ensures,
       c .before .level-of2 .ensures,
       c .before .before .before .row-of .ensures,

@@ -1,7 +1,5 @@
 -- `page_settings::limits_from` meets its contract. Assumes nothing.
 use native.Mathlib.Omega.{arith}
-use mir.Syntax.{w32}
-use mir.Facts.{toZ-ofZ}
 use Rattle.page_judge.specs.Accepted.{accepted-limits}
 use Rattle.page_settings.specs.Settings.{limitsFrom}
 use borrow.Author.Needs.{needs}
@@ -57,8 +55,6 @@ returns : tie.Need-returns
 unfolding limitsFrom
 returns c =
     rw (
-      toZ-ofZ {w = w32} (record { sfits = c .before .before .before .before .before .sample-level .ok }),
-      toZ-ofZ {w = w32} (record { sfits = c .before .before .before .sample-level2 .ok }),
       c .before .before .before .before .before .sample-level .ensures,
       c .before .before .before .sample-level2 .ensures,
       c .before .before .before .before .before .before .word-at .ensures,
