@@ -7,6 +7,7 @@ use mathlib.Core.List.{List, [], _∷_, _++_}
 use Prim.Native.Nat.{ℕ, _+_, _-_, _*_}
 use lib.IntN.{ℤ, pos}
 use lib.ListN.{replicate}
+use Rattle.units.specs.Levels.{level}
 use Rattle.page_judge.specs.Worked.{Change, workedPage, pageWith, put}
 use Rattle.refusals.specs.Answers.{answerOf}
 use Rattle.sample.specs.Cases as sample
@@ -157,7 +158,7 @@ pagelessCases =
 
 -- The worked page with N 1, M 1 and mask 0, which "only reports", for every protection.
 abbrev reports : ℤ → ℤ → Limits
-reports trip release = record { trip = trip; release = release; n = 1; m = 1; mask = 0 }
+reports trip release = record { trip = level trip; release = level release; n = 1; m = 1; mask = 0 }
 
 abbrev reporting : Settings
 reporting =

@@ -5,8 +5,6 @@ ghost use mathlib.Core.Path.{_≡_};
 ghost use mathlib.Core.Bool.{true};
 ghost use Prim.Native.Nat.{_≤_};
 ghost use lib.ListN.{length};
-use libc::STDERR_FILENO;
-use libc::STDOUT_FILENO;
 
 // A loop over a file that may never end is proved to end by a count that falls: 2^64 - 1 turns, more than any file has bytes.
 pub const TURNS: u64 = 18446744073709551615;
@@ -34,8 +32,8 @@ pub struct Opened {
 
 // Says something of a file.
 pub fn say(name: &[u8], what: &[u8]) {
-    io::write_all(STDERR_FILENO, name);
-    io::write_all(STDERR_FILENO, what);
+    io::write_all(libc::STDERR_FILENO, name);
+    io::write_all(libc::STDERR_FILENO, what);
 }
 
 // Puts argument `i` into a buffer; where there is none, the usage line is said.
@@ -44,7 +42,7 @@ pub fn argument(i: usize, usage: &[u8], buf: &mut [u8]) -> Got
 {
     let n = os::arg(i, buf);
     if os::errno() != 0 {
-        io::write_all(STDERR_FILENO, usage);
+        io::write_all(libc::STDERR_FILENO, usage);
         return Got { ok: false, n: 0 };
     }
     Got { ok: true, n: n }
@@ -133,7 +131,7 @@ pub fn read_more(name: &[u8], fd: i32, done: bool, buf: &mut [u8], held: usize) 
 
 // Writes a text to standard output.
 pub fn write_text(text: &[u8]) -> bool {
-    if io::write_all(STDOUT_FILENO, text) {
+    if io::write_all(libc::STDOUT_FILENO, text) {
         return true;
     }
     os::fail(b"standard output");

@@ -11,8 +11,10 @@ use Rattle.protections.specs.declared.Quantity.the-variants.{HighestCell, Lowes
 use Rattle.page_words.specs.Ranges.{wordAt, within, degreesFit, levelFits, levelOf}
 
 -- The user's own cut-off: 4250 is 0x109A, low byte first; read backwards it would be 39440. Past the end a word reads as 0.
-words : (wordAt (0x9A ∷ 0x10 ∷ 0x36 ∷ 0x10 ∷ []) 0 ∷ wordAt (0x9A ∷ 0x10 ∷ 0x36 ∷ 0x10 ∷ []) 1 ∷ wordAt (0x10 ∷ 0x9A ∷ []) 0 ∷ wordAt (0x9A ∷ []) 0 ∷ wordAt [] 0 ∷ [])
-    ≡ (4250 ∷ 4150 ∷ 39440 ∷ 0x9A ∷ 0 ∷ [])
+words
+    : (map (wordAt (0x9A ∷ 0x10 ∷ 0x36 ∷ 0x10 ∷ [])) (0 ∷ 1 ∷ 2 ∷ []) ∷ map (wordAt (0x10 ∷ 0x9A ∷ 0x01 ∷ [])) (0 ∷ 1 ∷ [])
+    ∷ [])
+    ≡ ((4250 ∷ 4150 ∷ 0 ∷ []) ∷ (39440 ∷ 1 ∷ []) ∷ [])
 unfolding wordAt
 words = refl
 

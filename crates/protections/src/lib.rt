@@ -55,7 +55,7 @@ pub struct Row {
     pub mode: Mode,
 }
 
-fn entry(quantity: Quantity, direction: Direction, mode: Mode) -> Row
+fn row_with(quantity: Quantity, direction: Direction, mode: Mode) -> Row
     ensures { λ r. ⌜ r ≡ rowWith quantity direction mode ⌝ }
 {
     Row {
@@ -71,13 +71,13 @@ pub fn row_of(p: ProtectionNo) -> Row
 {
     let k = p.0;
     match k {
-        0 => entry(Quantity::HighestCell, Direction::Above, Mode::Number(0x15)),
-        1 => entry(Quantity::LowestCell, Direction::Below, Mode::Silent),
-        2 => entry(Quantity::Current, Direction::Above, Mode::Number(0x12)),
-        3 => entry(Quantity::Current, Direction::Below, Mode::Number(0x13)),
-        4 => entry(Quantity::Current, Direction::Below, Mode::Number(0x14)),
-        5 => entry(Quantity::Temperature1, Direction::Above, Mode::Number(0x10)),
-        6 => entry(Quantity::Temperature1, Direction::Above, Mode::Number(0x11)),
-        _ => entry(Quantity::Temperature2, Direction::Above, Mode::Number(0x16)),
+        0 => row_with(Quantity::HighestCell, Direction::Above, Mode::Number(0x15)),
+        1 => row_with(Quantity::LowestCell, Direction::Below, Mode::Silent),
+        2 => row_with(Quantity::Current, Direction::Above, Mode::Number(0x12)),
+        3 => row_with(Quantity::Current, Direction::Below, Mode::Number(0x13)),
+        4 => row_with(Quantity::Current, Direction::Below, Mode::Number(0x14)),
+        5 => row_with(Quantity::Temperature1, Direction::Above, Mode::Number(0x10)),
+        6 => row_with(Quantity::Temperature1, Direction::Above, Mode::Number(0x11)),
+        _ => row_with(Quantity::Temperature2, Direction::Above, Mode::Number(0x16)),
     }
 }

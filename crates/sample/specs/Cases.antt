@@ -1,17 +1,18 @@
 -- Samples written short, and computed cases that pin each quantity.
 -- Assumes nothing.
 use mathlib.Core.Path.{_≡_, refl}
+use mathlib.Core.Bool.{Bool, true, false}
 use mathlib.Core.List.{List, [], _∷_, map}
 use Prim.Native.Nat.{ℕ, zero, suc}
 use lib.IntN.{ℤ, pos, negsuc}
 use Rattle.units.specs.declared.MilliVolts.{MilliVolts}
 use Rattle.laws.specs.Numbered.{listFrom, listOf}
-use Rattle.protections.specs.Table.{rowAt, table, protections}
 use Rattle.protections.specs.declared.Direction.the-variants.{Above, Below}
+use Rattle.protections.specs.Table.{rowAt, table, protections}
 use Rattle.sample.specs.declared.Sample.{Sample}
 use Rattle.sample.specs.declared.Extremes.{Extremes}
 use Rattle.sample.specs.Cells.{bestOf, extremesOf}
-use Rattle.sample.specs.Measure.{measure}
+use Rattle.sample.specs.Measure.{measure, between}
 
 -- ---- samples, written short
 
@@ -39,14 +40,6 @@ pub quantities
 unfolding listOf listFrom measure extremesOf bestOf rowAt table
 quantities = refl
 
--- Between the two levels, neither of them included: trip 4250 and release 4150 upward, trip 2500 and release 2600 downward.
-pub between-levels
-    : (map (between Above (pos 4250) (pos 4150)) (pos 4150 ∷ pos 4151 ∷ pos 4249 ∷ pos 4250 ∷ [])
-    ∷ map (between Below (pos 2500) (pos 2600)) (pos 2500 ∷ pos 2501 ∷ pos 2599 ∷ pos 2600 ∷ [])
-    ∷ [])
-    ≡ ((false ∷ true ∷ true ∷ false ∷ []) ∷ (false ∷ true ∷ true ∷ false ∷ []) ∷ [])
-between-levels = refl
-
 -- A count over ten looks at ten entries; of no cell, both are 0.
 abbrev ten : List MilliVolts
 ten = cellsFrom (4000 ∷ 4020 ∷ 3990 ∷ 5999 ∷ 1 ∷ 4000 ∷ 4000 ∷ 4000 ∷ 4000 ∷ 6000 ∷ [])
@@ -58,3 +51,13 @@ pub counts : map (extremesOf ten) (0 ∷ 1 ∷ 3 ∷ 4 ∷ 9 ∷ 10 ∷ 200 ∷ 
     ≡ (pair 0 0 ∷ pair 4000 4000 ∷ pair 4020 3990 ∷ pair 5999 3990 ∷ pair 5999 1 ∷ pair 6000 1 ∷ pair 6000 1 ∷ [])
 unfolding extremesOf bestOf
 counts = refl
+
+-- ---- between the two levels, and at neither of them
+
+pub between-above : map (between Above (pos 4250) (pos 4150)) (pos 4100 ∷ pos 4150 ∷ pos 4151 ∷ pos 4249 ∷ pos 4250 ∷ pos 4300 ∷ [])
+    ≡ false ∷ false ∷ true ∷ true ∷ false ∷ false ∷ []
+between-above = refl
+
+pub between-below : map (between Below (minus 5000) (minus 100)) (minus 5001 ∷ minus 5000 ∷ minus 4999 ∷ minus 101 ∷ minus 100 ∷ pos 5 ∷ [])
+    ≡ false ∷ false ∷ true ∷ true ∷ false ∷ false ∷ []
+between-below = refl

@@ -1,7 +1,7 @@
 // The quantities of a sample, which the protections look at: its highest and lowest cell, its current, its temperatures.
 ghost use mathlib.Core.Path.{_≡_};
-ghost use Rattle.sample.specs.Cells.{larger, smaller, widen, extremesOf};
 ghost use Rattle.units.specs.Levels.{level};
+ghost use Rattle.sample.specs.Cells.{larger, smaller, widen, extremesOf};
 ghost use Rattle.sample.specs.Measure.{measureWith};
 ghost use Rattle.sample.specs.None.{noSample};
 use protections::Quantity;

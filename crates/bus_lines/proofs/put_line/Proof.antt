@@ -27,7 +27,7 @@ same-length c = search needs
 returns : tie.Need-returns
 returns c =
     let a = c .before .before .before .before .before .before .before .before .before .before .before .before .before .before .before .before .args in
-    line-put (a .p) (a .command) _ _ (c .before .before .before .before .before .before .before .before .before .before .before .before .before .before .before .before .pre .1) (c .before .before .before .before .before .before .before .before .before .before .before .before .before .reply .ensures .0) (c .before .before .before .before .before .before .before .before .before .before .before .before .before .reply .ensures .1) (c .before .before .before .before .before .before .put-answer .ensures .1)
+    line-put (a .p) (a .command) _ _ (c .before .before .before .before .before .before .before .before .before .before .before .before .before .before .before .before .pre .1) (c .before .before .before .before .before .before .before .before .before .before .before .before .before .reply .ensures .0 .0) (c .before .before .before .before .before .before .before .before .before .before .before .before .before .reply .ensures .1) (c .before .before .before .before .before .before .put-answer .ensures .1)
     (c .before .before .before .before .before .before .before .before .before .before .put-command .ensures) (c .before .before .before .before .before .before .put-answer .ensures .0) (c .before .before .put-byte .ensures .0)
 
 pub put-line-spec : {M : Type 1} → statement M

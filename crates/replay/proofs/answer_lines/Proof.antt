@@ -59,7 +59,7 @@ same-length-6 c = search needs
 returns-3 : tie.Need-returns-3 Inv-loop μ-loop
 returns-3 c =
     let a = c .before .before .before .before .before .before .before .before .before .before .before .before .before .before .answer-part .ensures in
-    ((a .0 .0, omega (arith, a .0 .1, c .before .before .before .before .before .before .before .before .before .before .before .before .before .before .before .before .before .before .loop .inv .1)), λ t. let e = c .before .before .before .before .before .read-more .ensures .1 (c .if3 .taken) in (e, a .1 e))
+    ((a .0 .0, omega (arith, a .0 .1, c .before .before .before .before .before .before .before .before .before .before .before .before .before .before .before .before .before .before .loop .inv .1)), λ t. let e = c .before .before .before .before .before .read-more .ensures .1 (c .if3 .taken) in (c .if3 .taken, e .0, a .1 (e .0)))
 
 loop-less : tie.Need-loop-less Inv-loop μ-loop
 loop-less c = omega arith
