@@ -51,8 +51,14 @@ abbrev pub tripWord : ℕ → ℕ
 tripWord p = 16 + 5 * p
 
 abbrev parts : ProtectionNo → List Kind
-parts p = Trip p ∷ Release p ∷ Limit leastRun mostRun ∷ Limit leastRun mostRun ∷ []
+parts p =
+    Trip p
+    ∷ Release p
+    ∷ Limit leastRun mostRun  -- N
+    ∷ Limit leastRun mostRun  -- M
+    ∷ []
 
+-- Word f of the five; the last is the switch mask.
 abbrev pub partKind : ProtectionNo → ℕ → Kind
 partKind p f = getD (parts p) f (Limit 0 mostMask)
 

@@ -2,3 +2,5 @@
 pub mod Refusals
 -- To be believed: document 01's number and word for each verdict.
 pub mod Answers
+-- Computed cases that pin both.
+mod Cases

@@ -61,6 +61,10 @@ pages =
     ∷ page (pageWith (one 0 0x17A5)) (Refused 3 0)
     ∷ page (set workedPage 127 0) (Refused 4 0)
     ∷ page (changed workedPage (one 9 1)) (Refused 4 0)  -- 4 before 5
+    ∷ page (pageWith (one 9 1)) (Refused 5 9)
+    ∷ page (pageWith (one 1 1)) (Refused 6 1)
+    ∷ page (pageWith (one 18 0)) (Refused 7 18)
+    ∷ page (pageWith (one 16 4150)) (Refused 8 16)
     ∷ []
 
 abbrev allJudged : List Page → Bool
