@@ -4,13 +4,18 @@ use mathlib.Core.Path.{_≡_, refl}
 use mathlib.Core.Bool.{Bool, true, false, not, cond}
 use mathlib.Core.List.{List, [], _∷_, map}
 use Prim.Native.Nat.{ℕ}
+use lib.IntN.{pos}
 use lib.ListN.{replicate}
 use Rattle.crc.specs.CheckByte.{checkByte, remainder, withByte, timesXs, timesX}
 use Rattle.laws.specs.Numbered.{countFrom}
 use Rattle.units.specs.Signed.{wordOf}
+use Rattle.refusals.specs.Refusals.{answer}
+use Rattle.page_settings.specs.declared.Settings.{Settings}
+use Rattle.sample.specs.declared.Sample.{Sample}
 use Rattle.sample.specs.Cases.{minus, sampled}
+use Rattle.pack_state.specs.Past.{past}
 use Rattle.bus_table.specs.Table.{table, rowOf}
-use Rattle.bus.specs.Replies.{notInTable, cellAbove, replyRefusals, repliedFor, frameOf, bytesOf, answerOfReply}
+use Rattle.bus.specs.Replies.{notInTable, cellAbove, replyRefusals, repliedFor, repliedAfter, frameOf, bytesOf, answerOfReply}
 
 -- ---- (*) "Current -2 is sent as FE FF; -32768 as 00 80", with their check bytes
 
@@ -98,6 +103,43 @@ pub no-sample
     ∷ 12 ∷ 0 ∷ 15 ∷ 12 ∷ 15 ∷ 15 ∷ 15 ∷ replicate 185 12)
 unfolding repliedFor replyRefusals rowOf table notInTable cellAbove
 no-sample = refl
+
+-- ---- of a page and a past
+
+-- n, K and R are unlike: it is n that a cell may not be above.
+abbrev page : Settings
+page =
+    record {
+      rules = record {
+        n = 4;
+        k = 1;
+        r = 2;
+        floor = record { 0 = 3900 };
+        difference = record { 0 = 10 };
+        detection = pos 100;
+        voltage = record { 0 = 4200 };
+        current = pos 1500;
+      };
+      limits = [];
+    }
+
+abbrev four : Sample
+four = sampled 4 (4001 ∷ 4002 ∷ 4003 ∷ 4004 ∷ 0 ∷ 0 ∷ 0 ∷ 0 ∷ 0 ∷ 0 ∷ []) (pos 0) 2980 2980
+
+pub of-a-page
+    : (map (λ c. answerOfReply (repliedAfter page (past (four ∷ []) 0) c 3) .number) cell-commands
+    ∷ map (λ c. answerOfReply (repliedAfter page (past [] 3) c 3) .number) (0x41 ∷ 0x45 ∷ 0x33 ∷ 0x34 ∷ [])
+    ∷ [])
+    ≡ ((0 ∷ 0 ∷ 0 ∷ 0 ∷ 13 ∷ 13 ∷ 13 ∷ 13 ∷ 13 ∷ 13 ∷ []) ∷ (0 ∷ 15 ∷ 15 ∷ 13 ∷ []) ∷ [])
+unfolding repliedAfter repliedFor replyRefusals rowOf table notInTable cellAbove
+of-a-page = refl
+
+-- "The others name word 0."
+pub word-0
+    : map answerOfReply (repliedFor 2 true 0x3A 3 ∷ repliedFor 2 true 0x32 3 ∷ repliedFor 2 true 0x31 2 ∷ repliedFor 2 false 0x31 3 ∷ repliedFor 2 true 0x31 3 ∷ [])
+    ≡ (answer 12 0 ∷ answer 13 0 ∷ answer 14 0 ∷ answer 15 0 ∷ answer 0 0 ∷ [])
+unfolding repliedFor replyRefusals rowOf table notInTable cellAbove
+word-0 = refl
 
 -- A pack without a page.
 pub no-page : answers 0 false 3 (0x41 ∷ 0x45 ∷ 0x30 ∷ 0x39 ∷ 0x3A ∷ []) ≡ (0 ∷ 15 ∷ 13 ∷ 13 ∷ 12 ∷ [])

@@ -16,9 +16,9 @@ use Rattle.pack_refusals.specs.Samples.{cellsFit, sampleRefusals, sample
 abbrev numbers : ℕ → List Sample → List ℕ
 numbers n ss = map (λ s. answerOf (sampleVerdict n s) .number) ss
 
--- A sample of two cells; the third entry is no cell.
+-- A sample of two cells; the third and the tenth entry are no cells.
 abbrev two : ℕ → ℕ → ℕ → ℕ → Sample
-two a b t1 t2 = sampled 2 (a ∷ b ∷ 65535 ∷ 0 ∷ 0 ∷ 0 ∷ 0 ∷ 0 ∷ 0 ∷ 0 ∷ []) (minus 32768) t1 t2
+two a b t1 t2 = sampled 2 (a ∷ b ∷ 65535 ∷ 0 ∷ 0 ∷ 0 ∷ 0 ∷ 0 ∷ 0 ∷ 65535 ∷ []) (minus 32768) t1 t2
 
 -- "Cell 6000 taken, 6001 gives 10. Temperature 2000 and 4500 taken, 1999 and 4501 give 11": each cell and both temperatures.
 pub limits

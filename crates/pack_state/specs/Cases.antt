@@ -38,16 +38,16 @@ tick-wraps = refl
 
 -- ---- (*) "n 3, K 1, R 1. At samples 3 to 7 the wanting cells are {1,2}, {1,3}, {1,2}, {1,3}, {1,2}; none want earlier. Bled: 1, 3, 2, 3, 1."
 
-abbrev page : Settings
-page =
+abbrev page : ℕ → Settings
+page r =
     record {
       rules = record {
         n = 3;
         k = 1;
-        r = 1;
+        r = r;
         floor = record { 0 = 3900 };
         difference = record { 0 = 10 };
-        detection = pos 100;
+        detection = pos 500;
         voltage = record { 0 = 4200 };
         current = pos 1500;
       };
@@ -63,7 +63,7 @@ page =
           ∷ [];
     }
 
--- Charging with 500 mA: cells of 4020 mV want bleeding beside one of 4000 mV.
+-- Charging with 500 mA, the detection current: cells of 4020 mV want bleeding beside one of 4000 mV.
 abbrev charged : ℕ → ℕ → ℕ → Sample
 charged a b c = sampled 3 (a ∷ b ∷ c ∷ 0 ∷ 0 ∷ 0 ∷ 0 ∷ 0 ∷ 0 ∷ 0 ∷ []) (pos 500) 2980 2980
 
@@ -83,18 +83,18 @@ seven =
 abbrev kept : Balance → List ℕ
 kept b = b .begun .0 ∷ b .rested ∷ b .bled ∷ b .start .0 ∷ []
 
--- What is kept after each sample of a history, the latest first: as document 01 says it, and step by step.
-abbrev said : List Sample → List (List ℕ)
-said [] = []
-said (s ∷ h) = kept (balanceAfter page (s ∷ h)) ∷ said h
+-- What is kept after each sample of a history, the latest first and the load last: as document 01 says it, and step by step.
+abbrev said : ℕ → List Sample → List (List ℕ)
+said r [] = kept (balanceAfter (page r) []) ∷ []
+said r (s ∷ h) = kept (balanceAfter (page r) (s ∷ h)) ∷ said r h
 
-abbrev stepped : List Sample → Pack
-stepped [] = freshPack page
-stepped (s ∷ h) = acceptedPack (stepped h) s
+abbrev stepped : ℕ → List Sample → Pack
+stepped r [] = freshPack (page r)
+stepped r (s ∷ h) = acceptedPack (stepped r h) s
 
-abbrev made : List Sample → List (List ℕ)
-made [] = []
-made (s ∷ h) = kept (stepped (s ∷ h) .balance) ∷ made h
+abbrev made : ℕ → List Sample → List (List ℕ)
+made r [] = kept (stepped r [] .balance) ∷ []
+made r (s ∷ h) = kept (stepped r (s ∷ h) .balance) ∷ made r h
 
 -- Cells 1, 2 and 3 have the bits 1, 2 and 4. Who was bled at the sample before rests, since R is 1.
 abbrev starred : List (List ℕ)
@@ -106,14 +106,23 @@ starred =
     ∷ (3 ∷ 0 ∷ 1 ∷ 1 ∷ [])
     ∷ (2 ∷ 0 ∷ 0 ∷ 3 ∷ [])
     ∷ (1 ∷ 0 ∷ 0 ∷ 2 ∷ [])
+    ∷ (1 ∷ 0 ∷ 0 ∷ 1 ∷ [])
     ∷ []
 
-pub starred-said : said seven ≡ starred
+-- With R 2 a cell that alone wants always, cell 1, is bled at two samples in a row and rests at the third.
+abbrev always : List Sample
+always = charged 4020 4000 4000 ∷ charged 4020 4000 4000 ∷ charged 4020 4000 4000 ∷ charged 4020 4000 4000 ∷ []
+
+abbrev rests-third : List (List ℕ)
+rests-third =
+    (1 ∷ 0 ∷ 1 ∷ 2 ∷ []) ∷ (3 ∷ 1 ∷ 0 ∷ 1 ∷ []) ∷ (2 ∷ 0 ∷ 1 ∷ 3 ∷ []) ∷ (1 ∷ 0 ∷ 1 ∷ 2 ∷ []) ∷ (1 ∷ 0 ∷ 0 ∷ 1 ∷ []) ∷ []
+
+pub starred-said : (said 1 seven ∷ said 2 always ∷ []) ≡ (starred ∷ rests-third ∷ [])
 unfolding balanceAfter restedAfter bledAfter bledWord wishesOf wishAt wishes cellOf wants someRaised anyOf raised rowAt table measure
     extremesOf bestOf wordTo bitsOf withBitIf withBit withCellIf
 starred-said = refl
 
-pub starred-made : made seven ≡ starred
+pub starred-made : (made 1 seven ∷ made 2 always ∷ []) ≡ (starred ∷ rests-third ∷ [])
 unfolding acceptedPack freshPack freshBalance nextBalance wantWith wantingWord wishes cellOf wants anyRaised anyOf stepAllWith
     stepWith stepOne nextRun protectionsOf protectionOf listOf raised rowAt table measure extremesOf bestOf restingWord rested runOf chosenWord
     isCell inWord hasBit withCellIf withBitIf withBit wordTo bitsOf nextCell nextRuns eachTo
