@@ -6,8 +6,8 @@ use mathlib.Core.List.{List, [], _∷_, map}
 use Prim.Native.Nat.{ℕ}
 use lib.ListN.{replicate}
 use Rattle.crc.specs.CheckByte.{checkByte, remainder, withByte, timesXs, timesX}
+use Rattle.laws.specs.Numbered.{countFrom}
 use Rattle.units.specs.Signed.{wordOf}
-use Rattle.page_judge.specs.Page.{countFrom}
 use Rattle.sample.specs.Cases.{minus, sampled}
 use Rattle.bus_table.specs.Table.{table, rowOf}
 use Rattle.bus.specs.Replies.{notInTable, cellAbove, replyRefusals, repliedFor, frameOf, bytesOf, answerOfReply}

@@ -98,7 +98,7 @@ voltage-most bytes =
     (λ t.
     let good : Good (pageOf bytes) = page-good bytes (ltb-true 0 (pageOf bytes .rules .n) t) in
     let most : pageOf bytes .rules .n * pageOf bytes .rules .voltage .0 ≤ 10 * pageOf bytes .rules .voltage .0 = mul-le-mul-right (pageOf bytes .rules .voltage .0) (good .n .1) in
-    let cell = good .voltage in
+    let cell = good .voltage .1 in
     omega arith)
     (λ t.
     let none : pageOf bytes .rules .n ≡ 0 = let h = ltb-false 0 (pageOf bytes .rules .n) t in omega arith in

@@ -13,7 +13,7 @@ use Rattle.units.specs.Signed.{wordOf, word-signed}
 use Rattle.protections.specs.Table.{protections}
 use Rattle.page_words.specs.Ranges.{wordAt}
 use Rattle.page_judge.specs.Page.{judged}
-use Rattle.page_judge.specs.Accepted.{accepted-ranges}
+use Rattle.page_judge.specs.Accepted.{accepted-inside}
 use Rattle.refusals.specs.declared.Verdict.the-variants.{Accepted}
 use Rattle.guard_raised.specs.Words.{raisedAfter, blocksAny-is, raisedWord-has}
 use Rattle.page_settings.specs.declared.Settings.{Settings}
@@ -128,7 +128,7 @@ module _ (page : Settings) (h : List Sample) (c d : ℕ) where
 pub charging-current-is : (bytes : List ℕ) → judged bytes ≡ Accepted → wordOf (pageOf bytes .rules .current) ≡ wordAt bytes 8
 unfolding settingsOf rulesOf
 charging-current-is bytes taken =
-    let range = accepted-ranges bytes taken .current in
+    let range = accepted-inside bytes taken 8 (omega arith) .1 in
     rw (page-accepted bytes taken) (word-signed (wordAt bytes 8) (omega arith))
 
 -- ---- after any load and calls

@@ -29,6 +29,8 @@ use Rattle.units.specs.Signed.{signedOf}
 use Rattle.laws.specs.Latest.{nextRun, lastAll, among}
 use Rattle.crc.specs.CheckByte.{timesX, timesXs, withByte, remainder, checkByte}
 use Rattle.page_words.specs.Ranges.{wordAt, within, degreesFit, levelFits, levelOf}
+use Rattle.page_faults.specs.Kinds.{kindOf}
+use Rattle.page_faults.specs.Met.{levelMet, orderMet, onRow, kindMeets, meets}
 use Rattle.page_judge.specs.Page.{refusals, judged}
 use Rattle.refusals.specs.Answers.{answerOf}
 use Rattle.refusals.specs.declared.Verdict.the-variants.{Accepted}
@@ -37,7 +39,7 @@ use Rattle.sample.specs.declared.Sample.{Sample}
 use Rattle.page_settings.specs.declared.Rules.{Rules}
 use Rattle.page_settings.specs.declared.Settings.{Settings}
 use Rattle.page_settings.specs.declared.Loaded.{Loaded}
-use Rattle.page_settings.specs.Settings.{inDegrees, sampleLevel, limitsAt, limitsOf, rulesOf, settingsOf, noSettings, loadedOf}
+use Rattle.page_settings.specs.Settings.{inDegrees, sampleLevel, limitsFrom, limitsOf, rulesOf, settingsOf, noSettings, loadedOf}
 use Rattle.page_settings.specs.Cases.{workedRules, worked, worked-loaded}
 use Rattle.pack_state.specs.declared.Pack.{Pack}
 use Rattle.pack.specs.declared.Answered.{Answered}
@@ -254,7 +256,7 @@ pub worked-is : pageOf workedPage ≡ worked
 worked-is = ap (λ (l : Loaded). l .settings) worked-loaded
 
 pub three-is : loadedOf threePage ≡ record { verdict = Accepted; settings = three }
-unfolding loadedOf settingsOf rulesOf limitsOf limitsAt sampleLevel inDegrees levelOf signedOf judged refusals wordAt within degreesFit
+unfolding loadedOf settingsOf rulesOf limitsOf limitsFrom sampleLevel inDegrees levelOf signedOf judged refusals meets kindOf kindMeets onRow levelMet orderMet listOf listFrom wordAt within degreesFit
     levelFits rowAt table checkByte remainder withByte timesXs timesX
 three-is = refl
 

@@ -12,13 +12,14 @@ use lib.ListN.{drop, getD}
 use Rattle.laws.specs.Tests.{clash}
 use Rattle.laws.specs.Bits.{hasBit, has-zero}
 use Rattle.laws.specs.Latest.{lastAll, among}
+use Rattle.protections.specs.Limits.{limitsAt}
 use Rattle.protections.specs.Table.{rowAt, protections}
 use Rattle.page_judge.specs.Page.{judged}
 use Rattle.refusals.specs.Refusals.{NoFault, Lowest, none-exactly, refuse-exactly}
 use Rattle.page_judge.specs.Exactly.{refused-not, refused-one}
 use Rattle.refusals.specs.declared.Verdict.the-variants.{Accepted, Refused}
 use Rattle.sample.specs.declared.Sample.{Sample}
-use Rattle.guard.specs.Steps.{raised, limitsAt}
+use Rattle.guard.specs.Steps.{raised}
 use Rattle.guard_raised.specs.Words.{raisedWord-has}
 use Rattle.pack_refusals.specs.Samples.{sampleRefusals, sampleVerdict, commandRefusals, commandVerdict}
 use Rattle.page_settings.specs.declared.Settings.{Settings}

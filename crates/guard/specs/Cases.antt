@@ -6,6 +6,7 @@ use mathlib.Core.List.{List, [], _∷_, reverse}
 use Prim.Native.Nat.{ℕ}
 use lib.Dec.{eqb}
 use lib.IntN.{ℤ, pos}
+use Rattle.units.specs.Levels.{level}
 use Rattle.laws.specs.Latest.{nextRun}
 use Rattle.protections.specs.declared.Limits.{Limits}
 use Rattle.protections.specs.Table.{rowAt, table}
@@ -22,7 +23,7 @@ use Rattle.guard.specs.Steps.{raised, protectionOf, stepOne, stepWith}
 -- ---- limits and samples, written short
 
 abbrev pub limited : ℤ → ℤ → ℕ → ℕ → ℕ → Limits
-limited trip release n m mask = record { trip = trip; release = release; n = n; m = m; mask = mask }
+limited trip release n m mask = record { trip = level trip; release = level release; n = n; m = m; mask = mask }
 
 -- Two cells, the higher one of x mV.
 abbrev pub high : ℕ → Sample

@@ -5,14 +5,15 @@ use mathlib.Core.Bool.{Bool, true, false, not}
 use mathlib.Core.List.{List, [], _∷_}
 use Prim.Native.Nat.{ℕ, _+_, _≤_, _<_}
 use native.Mathlib.Omega.{arith}
-use lib.IntN.{ℤ, pos}
+use lib.IntN.{ℤ}
 use lib.ListN.{length, getD, set}
 use Rattle.laws.specs.Latest.{lastAll}
 use Rattle.laws.specs.Each.{eachTo, each-next}
 use Rattle.protections.specs.declared.Direction.{Direction}
 use Rattle.protections.specs.declared.Limits.{Limits}
 use Rattle.protections.specs.declared.Row.{Row}
-use Rattle.protections.specs.Direction.{reaches, back, inOrder, never-both}
+use Rattle.protections.specs.Direction.{reaches, back, never-both}
+use Rattle.protections.specs.Limits.{noLimits, limitsAt, GoodLimits, AllGood}
 use Rattle.protections.specs.Table.{rowAt, protections}
 use Rattle.sample.specs.declared.Sample.{Sample}
 use Rattle.sample.specs.declared.Extremes.{Extremes}
@@ -25,15 +26,8 @@ use Rattle.laws.specs.Numbered.{listOf, listOf-length, listOf-at, each-listOf}
 use Rattle.guard.specs.Runs as runs
 use Rattle.guard.specs.Runs.{nextAlarm, RunWithin}
 
-abbrev pub noLimits : Limits
-noLimits = record { trip = pos 0; release = pos 0; n = 0; m = 0; mask = 0 }
-
 abbrev pub noProtection : Protection
 noProtection = record { limits = noLimits; alarm = Clear 0 }
-
--- What the page says of protection p.
-abbrev pub limitsAt : List Limits → ℕ → Limits
-limitsAt ls p = getD ls p noLimits
 
 -- ---- from the history
 
@@ -69,7 +63,7 @@ stepOne d value p =
     record {
       limits = p .limits;
       alarm =
-          nextAlarm (p .limits .n) (p .limits .m) (reaches d (p .limits .trip) value) (reaches (back d) (p .limits .release) value)
+          nextAlarm (p .limits .n) (p .limits .m) (reaches d (p .limits .trip .0) value) (reaches (back d) (p .limits .release .0) value)
           (p .alarm);
     }
 
@@ -116,26 +110,12 @@ pub step-all-is : (e : Extremes) (s : Sample) (ps out : List Protection) (i : �
 unfolding stepAllWith
 step-all-is e s ps out i n q = rw (← n) q
 
--- ---- what an accepted page says of its limits
-
--- N and M are 1..240, the mask is 0..3, trip and release stand in the order of the direction.
-pub record GoodLimits (d : Direction) (l : Limits) : Type 0 where
-  pub n-least : 1 ≤ l .n
-  pub n-most : l .n ≤ 240
-  pub m-least : 1 ≤ l .m
-  pub m-most : l .m ≤ 240
-  pub mask-most : l .mask ≤ 3
-  pub ordered : inOrder d (l .trip) (l .release) ≡ true
-
-abbrev pub AllGood : List Limits → Type 0
-AllGood ls = (p : ℕ) → p < protections → GoodLimits (rowAt p .direction) (limitsAt ls p)
-
 -- ---- one protection of good limits
 
 module _ (row : Row) (l : Limits) (g : GoodLimits (row .direction) l) where
   -- It never trips and qualifies at one sample.
   pub never-at-once : (s : Sample) → trips row l s ≡ true → qualifies row l s ≡ false
-  never-at-once s = never-both (row .direction) (l .trip) (l .release) (measure (row .quantity) s) (g .ordered)
+  never-at-once s = never-both (row .direction) (l .trip .0) (l .release .0) (measure (row .quantity) s) (g .ordered)
 
   n-byte : l .n ≤ 255
   n-byte = let h = g .n-most in omega arith
@@ -163,11 +143,11 @@ module _ (row : Row) (l : Limits) (g : GoodLimits (row .direction) l) where
       runs.run-most (l .n) (l .m) 240 (runs.alarmOf (l .n) (l .m) (trips row l) (qualifies row l) h) (g .n-most) (g .m-most) (protection-within h)
 
   -- A sample between the two levels ends both runs: whatever the history was, it stays clear or raised and its run is none.
-  pub between-ends : (s : Sample) (h : List Sample) → between (row .direction) (l .trip) (l .release) (measure (row .quantity) s) ≡ true
+  pub between-ends : (s : Sample) (h : List Sample) → between (row .direction) (l .trip .0) (l .release .0) (measure (row .quantity) s) ≡ true
       → (raised row l (s ∷ h) ≡ raised row l h) × (runs.runOf (protectionOf row l (s ∷ h) .alarm) ≡ 0)
   unfolding raised protectionOf
   between-ends s h b =
-      let e = between-neither (row .direction) (l .trip) (l .release) (measure (row .quantity) s) b in
+      let e = between-neither (row .direction) (l .trip .0) (l .release .0) (measure (row .quantity) s) b in
       runs.neither-ends (l .n) (l .m) (trips row l) (qualifies row l) (g .n-least) n-byte (g .m-least) m-byte never-at-once s h (e .0) (e .1)
 
 pub protection-raised : (row : Row) (l : Limits) (h : List Sample) → runs.isRaised (protectionOf row l h .alarm) ≡ raised row l h

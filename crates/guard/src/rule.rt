@@ -1,11 +1,13 @@
 // The run rule of document 01: what raises a protection and what releases it.
 ghost use mathlib.Core.Path.{_≡_};
-ghost use Rattle.protections.specs.Direction.{reaches, back};
+ghost use Rattle.protections.specs.Direction.{reaches};
 ghost use Rattle.guard.specs.Runs.{nextAlarm};
 ghost use Rattle.guard.specs.Steps.{stepOne};
 use laws::next_run;
 use protections::Direction;
 use protections::Limits;
+use protections::back_of;
+use units::Level;
 
 // Clear, with its run of tripping samples; or raised, with its run of releasing samples.
 pub enum Alarm {
@@ -19,21 +21,12 @@ pub struct Protection {
     pub alarm: Alarm,
 }
 
-fn has_reached(d: Direction, level: i32, value: i32) -> bool
-    ensures { λ r. ⌜ r ≡ reaches d level value ⌝ }
+fn has_reached(d: Direction, level: Level, value: Level) -> bool
+    ensures { λ r. ⌜ r ≡ reaches d (level .0) (value .0) ⌝ }
 {
     match d {
-        Direction::Above => level <= value,
-        Direction::Below => value <= level,
-    }
-}
-
-fn opposite(d: Direction) -> Direction
-    ensures { λ r. ⌜ r ≡ back d ⌝ }
-{
-    match d {
-        Direction::Above => Direction::Below,
-        Direction::Below => Direction::Above,
+        Direction::Above => level.0 <= value.0,
+        Direction::Below => value.0 <= level.0,
     }
 }
 
@@ -62,13 +55,13 @@ fn next_alarm(n: u8, m: u8, trips: bool, qualifies: bool, a: Alarm) -> Alarm
 }
 
 // One protection, one sample on: `value` is what it looks at in the sample.
-pub fn step_one(d: Direction, value: i32, p: Protection) -> Protection
-    ensures { λ r. ⌜ r ≡ stepOne d value p ⌝ }
+pub fn step_one(d: Direction, value: Level, p: Protection) -> Protection
+    ensures { λ r. ⌜ r ≡ stepOne d (value .0) p ⌝ }
 {
     let limits = p.limits;
     let a = p.alarm;
     let trips = has_reached(d, limits.trip, value);
-    let qualifies = has_reached(opposite(d), limits.release, value);
+    let qualifies = has_reached(back_of(d), limits.release, value);
     let next = next_alarm(limits.n, limits.m, trips, qualifies, a);
     Protection {
         limits: limits,

@@ -10,11 +10,12 @@ use lib.ListN.{getD}
 use Rattle.laws.specs.Bits.{hasBit}
 use Rattle.laws.specs.Words.{bitsOf, anyOf, bits-same, any-same, bits-has, any-bits}
 use Rattle.protections.specs.declared.Limits.{Limits}
+use Rattle.protections.specs.Limits.{limitsAt}
 use Rattle.protections.specs.Table.{rowAt, protections}
 use Rattle.sample.specs.declared.Sample.{Sample}
 use Rattle.guard.specs.declared.rule.Protection.{Protection}
 use Rattle.guard.specs.Runs.{isRaised}
-use Rattle.guard.specs.Steps.{noProtection, limitsAt, raised, protectionsOf, protections-at, protection-raised, protection-limits}
+use Rattle.guard.specs.Steps.{noProtection, raised, protectionsOf, protections-at, protection-raised, protection-limits}
 
 -- ---- from the page's limits and the history
 

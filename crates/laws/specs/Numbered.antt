@@ -1,7 +1,7 @@
--- A list given by number: entry p is what f says of p.
+-- Numbers one after the other, and a list given by number: entry p is what f says of p.
 -- Assumes nothing.
 use mathlib.Core.Path.{_≡_, refl, sym, ap, _∙_}
-use mathlib.Core.List.{List, [], _∷_}
+use mathlib.Core.List.{List, [], _∷_, map}
 use Prim.Native.Nat.{ℕ, zero, suc, _+_, _<_}
 use native.Mathlib.Nat.{zero-add, add-zero, suc-add, add-suc, not-suc-le-zero, le-of-suc-le-suc}
 use native.Mathlib.Omega.{arith}
@@ -9,11 +9,15 @@ use lib.ListN.{length, getD}
 use lib.Seq.{ext-getD}
 use Rattle.laws.specs.Each.{eachTo, each-length, each-below}
 
+-- a, a + 1, .., k numbers.
+abbrev pub countFrom : ℕ → ℕ → List ℕ
+countFrom a zero = []
+countFrom a (suc k) = a ∷ countFrom (suc a) k
+
 module _ {A : Type 0} where
   -- f a, f (a + 1), .., k entries.
   unfoldable pub listFrom : (ℕ → A) → ℕ → ℕ → List A
-  listFrom f a zero = []
-  listFrom f a (suc k) = f a ∷ listFrom f (suc a) k
+  listFrom f a k = map f (countFrom a k)
 
   -- f 0, f 1, .., n entries.
   unfoldable pub listOf : (ℕ → A) → ℕ → List A

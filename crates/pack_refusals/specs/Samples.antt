@@ -12,16 +12,12 @@ use lib.ListN.{getD}
 use Rattle.units.specs.declared.MilliVolts.{MilliVolts}
 use Rattle.laws.specs.Each.{eachTo}
 use Rattle.page_words.specs.Ranges.{within}
-use Rattle.refusals.specs.Refusals.{Rule, rule, Refusal, refusal, first}
+use Rattle.refusals.specs.Refusals.{Refusal, refusal, whole, first}
 use Rattle.refusals.specs.declared.Verdict.{Verdict}
 use Rattle.refusals.specs.declared.Verdict.the-variants.{Accepted, Refused}
 use Rattle.units.specs.Cells.{lookedAt}
 use Rattle.sample.specs.Cells.{noVolts}
 use Rattle.sample.specs.declared.Sample.{Sample}
-
--- A rule of a whole sample or command names word 0.
-abbrev whole : Bool → List Rule
-whole ok = rule 0 ok ∷ []
 
 -- "A cell over 6000" is refused.
 abbrev pub cellFits : MilliVolts → Bool

@@ -14,7 +14,8 @@ use Rattle.units.specs.declared.CellNo.{CellNo}
 use Rattle.sample.specs.declared.Sample.{Sample}
 use Rattle.sample.specs.Cells.{extremesOf}
 use Rattle.guard.specs.declared.rule.Protection.{Protection}
-use Rattle.guard.specs.Steps.{AllGood, protectionsOf, protections-step}
+use Rattle.protections.specs.Limits.{AllGood}
+use Rattle.guard.specs.Steps.{protectionsOf, protections-step}
 use Rattle.guard_raised.specs.Words.{anyRaised-is}
 use Rattle.page_settings.specs.declared.Settings.{Settings}
 use Rattle.page_settings.specs.Good.{Good}
@@ -79,9 +80,7 @@ module _ (page : Settings) (good : Good page) where
   short = let h = good .r in omega arith
 
   pub limits-good : AllGood (page .limits)
-  limits-good p h =
-      let g = good .each p h in
-      record { n-least = g .n .0; n-most = g .n .1; m-least = g .m .0; m-most = g .m .1; mask-most = g .mask; ordered = g .order }
+  limits-good = good .each
 
   -- ---- bleeding
 

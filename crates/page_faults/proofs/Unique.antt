@@ -2,13 +2,28 @@
 -- Assumes nothing.
 use mathlib.Core.Path.{sym, _∙_}
 use Rattle.laws.specs.Unique.{Unique}
-use Rattle.page_faults.proofs.free_of.Reads as free-of
-use Rattle.page_faults.proofs.free_of.Kinds as free-of-kinds
-use Rattle.page_faults.proofs.number_of.Reads as number-of
-use Rattle.page_faults.proofs.number_of.Kinds as number-of-kinds
+use Rattle.page_faults.proofs.short_layout.Reads as short-layout
+use Rattle.page_faults.proofs.short_layout.Kinds as short-layout-kinds
+use Rattle.page_faults.proofs.check_at.Reads as check-at
+use Rattle.page_faults.proofs.check_at.Kinds as check-at-kinds
+use Rattle.page_faults.proofs.trip_word.Reads as trip-word
+use Rattle.page_faults.proofs.trip_word.Kinds as trip-word-kinds
+use Rattle.page_faults.proofs.kind_of.Reads as kind-of
+use Rattle.page_faults.proofs.kind_of.Kinds as kind-of-kinds
+use Rattle.page_faults.proofs.meets.Reads as meets
+use Rattle.page_faults.proofs.meets.Kinds as meets-kinds
 
-free-of-one : Unique 1 free-of-kinds.ps free-of-kinds.r free-of.Post
-free-of-one κs a x y s t p q = p ∙ sym q
+short-layout-one : Unique 0 short-layout-kinds.ps short-layout-kinds.r short-layout.Post
+short-layout-one κs a x y s t p q = p ∙ sym q
 
-number-of-one : Unique 0 number-of-kinds.ps number-of-kinds.r number-of.Post
-number-of-one κs a x y s t p q = p ∙ sym q
+check-at-one : Unique 0 check-at-kinds.ps check-at-kinds.r check-at.Post
+check-at-one κs a x y s t p q = p ∙ sym q
+
+trip-word-one : Unique 0 trip-word-kinds.ps trip-word-kinds.r trip-word.Post
+trip-word-one κs a x y s t p q = p ∙ sym q
+
+kind-of-one : Unique 0 kind-of-kinds.ps kind-of-kinds.r kind-of.Post
+kind-of-one κs a x y s t p q = p ∙ sym q
+
+meets-one : Unique 1 meets-kinds.ps meets-kinds.r meets.Post
+meets-one κs a x y s t p q = p ∙ sym q

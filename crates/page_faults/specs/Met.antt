@@ -1,59 +1,43 @@
--- For each fault, what each of the 64 words of a page has to meet.
+-- What a word has to meet by what it is: rows 5 to 8 of the refusal table.
 -- Assumes nothing.
 use mathlib.Core.Bool.{Bool, true, cond}
-use mathlib.Core.List.{List, [], _∷_}
-use Prim.Native.Nat.{ℕ, _+_, _-_, _/_, _%_}
-use lib.Dec.{leb, ltb, eqb}
+use mathlib.Core.List.{List}
+use Prim.Native.Nat.{ℕ, _+_, _*_}
+use lib.Dec.{eqb}
 use lib.ListN.{getD}
 use Rattle.protections.specs.Direction.{inOrder}
 use Rattle.protections.specs.Table.{rowAt}
 use Rattle.page_words.specs.Ranges.{wordAt, within, levelFits, levelOf}
-use Rattle.page_faults.specs.declared.Fault.{Fault}
-use Rattle.page_faults.specs.declared.Fault.the-variants.{Reserved, Range, Level, Order}
+use Rattle.page_faults.specs.Kinds.{kindOf}
+use Rattle.page_faults.specs.declared.Layout.{Layout}
+use Rattle.page_faults.specs.declared.Kind.{Kind}
+use Rattle.page_faults.specs.declared.Kind.the-variants.{Mark, Setting, Reserved, Trip, Release, Limit, Last, Outside}
 
--- A word of which a row does not speak meets it.
+-- A trip or release word of protection p is in the range of what p looks at.
+unfoldable pub levelMet : ℕ → ℕ → Bool
+levelMet p x = levelFits (rowAt p .quantity) x
 
-unfoldable pub reservedMet : List ℕ → ℕ → Bool
-reservedMet b i =
-    cond (ltb i 9) true
-    (cond (ltb i 16) (eqb (wordAt b i) 0)
-    (cond (ltb i 56) true
-    (cond (ltb i 63) (eqb (wordAt b i) 0) (eqb (getD b 126 0) 0))))
+-- The trip word x and the release word y of protection p are in the order of its direction.
+unfoldable pub orderMet : ℕ → ℕ → ℕ → Bool
+orderMet p x y = inOrder (rowAt p .direction) (levelOf (rowAt p .quantity) x) (levelOf (rowAt p .quantity) y)
 
-abbrev pub lows : List ℕ
-lows = 0 ∷ 2 ∷ 1 ∷ 1 ∷ 0 ∷ 1 ∷ 1 ∷ 0 ∷ 0 ∷ []
+-- What row `number` asks: it asks nothing where another row is looked at.
+unfoldable pub onRow : ℕ → ℕ → Bool → Bool
+onRow number row met = cond (eqb row number) met true
 
-abbrev pub highs : List ℕ
-highs = 0 ∷ 10 ∷ 5 ∷ 240 ∷ 6000 ∷ 6000 ∷ 32767 ∷ 6000 ∷ 32767 ∷ []
+-- What the rows ask of word i, by what it is: "5, a reserved word, or byte 126 (as word 63), isn't 0; 6, one of words 1..8 out of range;
+-- 7, a protection word out of range; 8, trip and release not in the order above", for which the trip word is named. The mark has rows
+-- of its own, 2 and 3.
+unfoldable pub kindMeets : Kind → ℕ → List ℕ → ℕ → Bool
+kindMeets Mark row b i = true
+kindMeets (Setting low high) row b i = onRow 6 row (within low high (wordAt b i))
+kindMeets Reserved row b i = onRow 5 row (eqb (wordAt b i) 0)
+kindMeets (Trip p) row b i = cond (eqb row 8) (orderMet (p .0) (wordAt b i) (wordAt b (i + 1))) (onRow 7 row (levelMet (p .0) (wordAt b i)))
+kindMeets (Release p) row b i = onRow 7 row (levelMet (p .0) (wordAt b i))
+kindMeets (Limit low high) row b i = onRow 7 row (within low high (wordAt b i))
+kindMeets Last row b i = onRow 5 row (eqb (getD b (2 * i) 0) 0)
+kindMeets Outside row b i = true
 
-unfoldable pub rangeMet : List ℕ → ℕ → Bool
-rangeMet b i = cond (ltb i 1) true (cond (ltb i 9) (within (getD lows i 0) (getD highs i 0) (wordAt b i)) true)
-
--- Word f of protection p.
-unfoldable pub wordOfMet : ℕ → ℕ → ℕ → Bool
-wordOfMet p f x = cond (ltb f 2) (levelFits (rowAt p .quantity) x) (cond (ltb f 4) (within 1 240 x) (within 0 3 x))
-
-unfoldable pub levelMet : List ℕ → ℕ → Bool
-levelMet b i = cond (ltb i 16) true (cond (ltb i 56) (wordOfMet ((i - 16) / 5) ((i - 16) % 5) (wordAt b i)) true)
-
--- The trip word x and the release word y of protection p.
-unfoldable pub orderedAt : ℕ → ℕ → ℕ → Bool
-orderedAt p x y = inOrder (rowAt p .direction) (levelOf (rowAt p .quantity) x) (levelOf (rowAt p .quantity) y)
-
-unfoldable pub orderMet : List ℕ → ℕ → Bool
-orderMet b i =
-    cond (ltb i 16) true
-    (cond (leb 56 i) true
-    (cond (eqb ((i - 16) % 5) 0) (orderedAt ((i - 16) / 5) (wordAt b i) (wordAt b (i + 1))) true))
-
-unfoldable pub met : Fault → List ℕ → ℕ → Bool
-met Reserved b i = reservedMet b i
-met Range b i = rangeMet b i
-met Level b i = levelMet b i
-met Order b i = orderMet b i
-
-abbrev pub numberOf : Fault → ℕ
-numberOf Reserved = 5
-numberOf Range = 6
-numberOf Level = 7
-numberOf Order = 8
+-- Word i of a page of that layout meets the row; a word of which the row does not speak does, and so does what is no word of the page.
+unfoldable pub meets : Layout → ℕ → List ℕ → ℕ → Bool
+meets l row b i = kindMeets (kindOf l i) row b i

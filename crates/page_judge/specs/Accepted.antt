@@ -3,25 +3,30 @@
 use mathlib.Core.Path.{_≡_, refl, sym, _∙_, subst}
 use mathlib.Core.Bool.{Bool, true, false, cond}
 use mathlib.Core.List.{List}
-use Prim.Native.Nat.{ℕ, zero, suc, _+_, _-_, _/_, _%_, _<_, _≤_}
+use Prim.Native.Nat.{ℕ, zero, suc, _+_, _<_, _≤_}
 use native.Mathlib.Omega.{arith}
 use native.Mathlib.Nat.{not-suc-le-zero, zero-add, add-zero}
-use borrow.Author.Tests.{lt-ltb, le-ltb, lt-leb, leb-true, eqb-true}
+use borrow.Author.Tests.{leb-true, eqb-true}
 use lib.Dec.{leb, eqb}
 use lib.ListN.{length, getD, take}
+use Rattle.laws.specs.Numbered.{listFrom}
 use Rattle.laws.specs.Tests.{by-test, and-left, and-right}
 use Rattle.crc.specs.CheckByte.{checkByte}
+use Rattle.units.specs.declared.ProtectionNo.{ProtectionNo}
 use Rattle.protections.specs.Direction.{inOrder}
-use Rattle.protections.specs.Table.{rowAt}
+use Rattle.protections.specs.Limits.{leastRun, mostRun, mostMask}
+use Rattle.protections.specs.Table.{rowAt, protections}
 use Rattle.page_words.specs.Ranges.{wordAt, within, levelFits, levelOf}
-use Rattle.page_judge.specs.Page.{tripWord, judged}
-use Rattle.page_faults.specs.Met.{met, rangeMet, levelMet, orderMet, wordOfMet, orderedAt}
-use Rattle.page_judge.specs.Walk.{lowestFrom, lowestFault, orElse, faultsOf, judged-is}
+use Rattle.page_faults.specs.Kinds.{shortLayout, checkAt, bytesOf, frontKind, tripWord, partKind, kindOf, kind-front, kind-part, Inside}
+use Rattle.page_faults.specs.Met.{levelMet, orderMet, onRow, kindMeets, meets}
+use Rattle.page_faults.specs.declared.Layout.{Layout}
+use Rattle.page_faults.specs.declared.Kind.{Kind}
+use Rattle.page_faults.specs.declared.Kind.the-variants.{Mark, Setting, Reserved, Trip, Release, Limit, Last, Outside}
+use Rattle.page_judge.specs.Page.{swappedWord, judged}
+use Rattle.page_judge.specs.Walk.{lowestFrom, lowestWord, orElse, faultsOf, starts, judged-is}
 use Rattle.page_judge.specs.Exactly.{refused-not}
 use Rattle.refusals.specs.declared.Verdict.{Verdict}
 use Rattle.refusals.specs.declared.Verdict.the-variants.{Accepted, Refused}
-use Rattle.page_faults.specs.declared.Fault.{Fault}
-use Rattle.page_faults.specs.declared.Fault.the-variants.{Reserved, Range, Level, Order}
 
 -- ---- out of the verdict
 
@@ -48,110 +53,101 @@ passed true false false t3 v e = absurd (refused-not 3 0 e)
 passed true false true false v e = absurd (refused-not 4 0 e)
 passed true false true true v e = record { bytes = refl; mark = refl; check = refl; faults = e }
 
-first-met : (f : Fault) (b : List ℕ) (i k : ℕ) → lowestFrom f b i k ≡ Accepted → (j : ℕ) → j < k → met f b (i + j) ≡ true
-unfolding lowestFrom
-first-met f b i zero e j h = absurd (not-suc-le-zero h)
-first-met f b i (suc k) e zero h = by-test (met f b i) (λ t. rw add-zero t) (λ t. absurd (refused-not _ i (rw t at e)))
-first-met f b i (suc k) e (suc j) h =
-    by-test (met f b i)
+first-met : (l : Layout) (row : ℕ) (b : List ℕ) (i k : ℕ) → lowestFrom l row b i k ≡ Accepted → (j : ℕ) → j < k → meets l row b (i + j) ≡ true
+unfolding lowestFrom listFrom
+first-met l row b i zero e j h = absurd (not-suc-le-zero h)
+first-met l row b i (suc k) e zero h = by-test (meets l row b i) (λ t. rw add-zero t) (λ t. absurd (refused-not _ i (rw t at e)))
+first-met l row b i (suc k) e (suc j) h =
+    by-test (meets l row b i)
     (λ t.
-    let z : i + 1 + j ≡ i + suc j = omega arith in
-    subst (λ (x : ℕ). met f b x ≡ true) z (first-met f b (i + 1) k (rw t at e) j (omega arith)))
+    let z : suc i + j ≡ i + suc j = omega arith in
+    subst (λ (x : ℕ). meets l row b x ≡ true) z (first-met l row b (suc i) k (rw t at e) j (omega arith)))
     (λ t. absurd (refused-not _ i (rw t at e)))
 
 pub within-says : (low high x : ℕ) → within low high x ≡ true → (low ≤ x) × (x ≤ high)
 unfolding within
 within-says low high x e = (leb-true low x (and-left (leb low x) (leb x high) e), leb-true x high (and-right (leb low x) (leb x high) e))
 
--- Words 1 to 8 of a page are in their ranges.
-pub record InRange (b : List ℕ) : Type 0 where
-  pub n : (2 ≤ wordAt b 1) × (wordAt b 1 ≤ 10)
-  pub k : (1 ≤ wordAt b 2) × (wordAt b 2 ≤ 5)
-  pub r : (1 ≤ wordAt b 3) × (wordAt b 3 ≤ 240)
-  pub floor : wordAt b 4 ≤ 6000
-  pub difference : (1 ≤ wordAt b 5) × (wordAt b 5 ≤ 6000)
-  pub detection : (1 ≤ wordAt b 6) × (wordAt b 6 ≤ 32767)
-  pub voltage : wordAt b 7 ≤ 6000
-  pub current : wordAt b 8 ≤ 32767
+-- A word that meets rows 6 and 7 is in its range, if it has one.
+inside-says : (k : Kind) (b : List ℕ) (i : ℕ) → kindMeets k 6 b i ≡ true → kindMeets k 7 b i ≡ true → Inside k (wordAt b i)
+unfolding kindMeets onRow
+inside-says Mark b i six seven = tt
+inside-says (Setting low high) b i six seven = within-says low high (wordAt b i) six
+inside-says Reserved b i six seven = tt
+inside-says (Trip p) b i six seven = tt
+inside-says (Release p) b i six seven = tt
+inside-says (Limit low high) b i six seven = within-says low high (wordAt b i) seven
+inside-says Last b i six seven = tt
+inside-says Outside b i six seven = tt
+
+-- Protection p as the table of words names it.
+abbrev no : ℕ → ProtectionNo
+no p = record { 0 = p }
 
 -- The five words of protection p of a page are in range, and its levels in order.
 pub record Limited (b : List ℕ) (p : ℕ) : Type 0 where
   pub trip : levelFits (rowAt p .quantity) (wordAt b (tripWord p)) ≡ true
   pub release : levelFits (rowAt p .quantity) (wordAt b (tripWord p + 1)) ≡ true
-  pub n : (1 ≤ wordAt b (tripWord p + 2)) × (wordAt b (tripWord p + 2) ≤ 240)
-  pub m : (1 ≤ wordAt b (tripWord p + 3)) × (wordAt b (tripWord p + 3) ≤ 240)
-  pub mask : wordAt b (tripWord p + 4) ≤ 3
+  pub n : (leastRun ≤ wordAt b (tripWord p + 2)) × (wordAt b (tripWord p + 2) ≤ mostRun)
+  pub m : (leastRun ≤ wordAt b (tripWord p + 3)) × (wordAt b (tripWord p + 3) ≤ mostRun)
+  pub mask : wordAt b (tripWord p + 4) ≤ mostMask
   pub order : inOrder (rowAt p .direction) (levelOf (rowAt p .quantity) (wordAt b (tripWord p))) (levelOf (rowAt p .quantity) (wordAt b (tripWord p + 1))) ≡ true
 
--- Word i is word f of protection p.
-level-rule : (b : List ℕ) (p f i : ℕ) → p < 8 → f < 5 → i ≡ tripWord p + f → met Level b i ≡ true → wordOfMet p f (wordAt b i) ≡ true
-unfolding met levelMet
-level-rule b p f i hp hf e t =
-    let q : (i - 16) / 5 ≡ p = omega arith in
-    let r : (i - 16) % 5 ≡ f = omega arith in
-    rw (le-ltb i 16 (omega arith), lt-ltb i 56 (omega arith), q, r) at t
+-- A page of any layout with room for its protections, none of whose words has a fault.
+module _ (l : Layout) (room : tripWord (l .protections) ≤ l .last) (b : List ℕ) (e : faultsOf l b ≡ Accepted) where
+  row-met : (row : ℕ) → lowestWord l row b ≡ Accepted → (i : ℕ) → i ≤ l .last → kindMeets (kindOf l i) row b i ≡ true
+  unfolding meets
+  row-met row z i h =
+      subst (λ (x : ℕ). meets l row b x ≡ true) (zero-add i) (first-met l row b 0 (suc (l .last)) (sym (starts l row b) ∙ z) i (omega arith))
 
-order-rule : (b : List ℕ) (p i : ℕ) → p < 8 → i ≡ tripWord p → met Order b i ≡ true → orderedAt p (wordAt b i) (wordAt b (i + 1)) ≡ true
-unfolding met orderMet
-order-rule b p i hp e t =
-    let q : (i - 16) / 5 ≡ p = omega arith in
-    let r : (i - 16) % 5 ≡ 0 = omega arith in
-    rw (le-ltb i 16 (omega arith), lt-leb 56 i (omega arith), q, r) at t
+  -- Every word meets each row, by what it is.
+  rows : (lowestWord l 5 b ≡ Accepted) × (lowestWord l 6 b ≡ Accepted) × (lowestWord l 7 b ≡ Accepted) × (lowestWord l 8 b ≡ Accepted)
+  unfolding faultsOf
+  rows = all-accepted (lowestWord l 5 b) (lowestWord l 6 b) (lowestWord l 7 b) (lowestWord l 8 b) e
+
+  word-inside : (i : ℕ) → i ≤ l .last → Inside (kindOf l i) (wordAt b i)
+  word-inside i h = inside-says (kindOf l i) b i (row-met 6 (rows .1) i h) (row-met 7 (rows .2) i h)
+
+  -- Words 1 to 8 are in their ranges.
+  front-inside : (i : ℕ) → i < 16 → Inside (frontKind i) (wordAt b i)
+  front-inside i h = subst (λ (k : Kind). Inside k (wordAt b i)) (kind-front l i h) (word-inside i (omega arith))
+
+  words-limited : (p : ℕ) → p < l .protections → Limited b p
+  unfolding kindMeets onRow levelMet orderMet
+  words-limited p h =
+      let part : (f : ℕ) → f < 5 → Inside (partKind (no p) f) (wordAt b (tripWord p + f)) =
+      λ f g. subst (λ (k : Kind). Inside k (wordAt b (tripWord p + f))) (kind-part l p f h g) (word-inside (tripWord p + f) (omega arith)) in
+      let level : (row f : ℕ) → f < 5 → lowestWord l row b ≡ Accepted → kindMeets (partKind (no p) f) row b (tripWord p + f) ≡ true =
+      λ row f g z. subst (λ (k : Kind). kindMeets k row b (tripWord p + f) ≡ true) (kind-part l p f h g) (row-met row z (tripWord p + f) (omega arith)) in
+      let z : tripWord p + 0 ≡ tripWord p = omega arith in
+      record {
+        trip = subst (λ (i : ℕ). kindMeets (Trip (no p)) 7 b i ≡ true) z (level 7 0 (omega arith) (rows .2));
+        release = level 7 1 (omega arith) (rows .2);
+        n = part 2 (omega arith);
+        m = part 3 (omega arith);
+        mask = part 4 (omega arith) .1;
+        order = subst (λ (i : ℕ). kindMeets (Trip (no p)) 8 b i ≡ true) z (level 8 0 (omega arith) (rows .3));
+      }
 
 module _ (b : List ℕ) (e : judged b ≡ Accepted) where
-  tests : Passed (eqb (length b) 128) (eqb (wordAt b 0) 0x17A4) (eqb (getD b 127 0) (checkByte (take 127 b))) (faultsOf b)
+  -- The layout of the page.
+  abbrev own : Layout
+  own = shortLayout
+
+  tests : Passed (eqb (length b) (bytesOf own)) (eqb (wordAt b 0) (own .mark)) (eqb (getD b (checkAt own) 0) (checkByte (take (checkAt own) b))) (faultsOf own b)
   tests =
-      passed (eqb (length b) 128) (eqb (wordAt b 0) 0xA417) (eqb (wordAt b 0) 0x17A4) (eqb (getD b 127 0) (checkByte (take 127 b))) (faultsOf b)
-      (sym (judged-is b) ∙ e)
+      passed (eqb (length b) (bytesOf own)) (eqb (wordAt b 0) (swappedWord (own .mark))) (eqb (wordAt b 0) (own .mark))
+      (eqb (getD b (checkAt own) 0) (checkByte (take (checkAt own) b))) (faultsOf own b) (sym (judged-is b) ∙ e)
 
-  pub accepted-length : length b ≡ 128
-  accepted-length = eqb-true (length b) 128 (tests .bytes)
+  pub accepted-length : length b ≡ bytesOf shortLayout
+  accepted-length = eqb-true (length b) (bytesOf own) (tests .bytes)
 
-  pub accepted-mark : wordAt b 0 ≡ 0x17A4
-  accepted-mark = eqb-true (wordAt b 0) 0x17A4 (tests .mark)
+  pub accepted-mark : wordAt b 0 ≡ shortLayout .mark
+  accepted-mark = eqb-true (wordAt b 0) (own .mark) (tests .mark)
 
-  no-fault : (f : Fault) → lowestFault f b ≡ Accepted
-  unfolding faultsOf
-  no-fault f =
-      elim-fault f (all-accepted (lowestFault Reserved b) (lowestFault Range b) (lowestFault Level b) (lowestFault Order b) (tests .faults))
-    where
-      elim-fault : (f : Fault)
-          → (lowestFault Reserved b ≡ Accepted) × (lowestFault Range b ≡ Accepted) × (lowestFault Level b ≡ Accepted) × (lowestFault Order b ≡ Accepted)
-          → lowestFault f b ≡ Accepted
-      elim-fault Reserved a = a .0
-      elim-fault Range a = a .1
-      elim-fault Level a = a .2
-      elim-fault Order a = a .3
+  -- Words 1 to 8 are in their ranges.
+  pub accepted-inside : (i : ℕ) → i < 16 → Inside (frontKind i) (wordAt b i)
+  accepted-inside = front-inside own (omega arith) b (tests .faults)
 
-  -- Every word is free of every fault.
-  pub accepted-met : (f : Fault) (j : ℕ) → j < 64 → met f b j ≡ true
-  unfolding lowestFault
-  accepted-met f j h = subst (λ (x : ℕ). met f b x ≡ true) (zero-add j) (first-met f b 0 64 (no-fault f) j h)
-
-  pub accepted-ranges : InRange b
-  unfolding met rangeMet
-  accepted-ranges =
-      let at : (j : ℕ) → j < 64 → met Range b j ≡ true = accepted-met Range in
-      record {
-        n = within-says 2 10 (wordAt b 1) (at 1 (omega arith));
-        k = within-says 1 5 (wordAt b 2) (at 2 (omega arith));
-        r = within-says 1 240 (wordAt b 3) (at 3 (omega arith));
-        floor = within-says 0 6000 (wordAt b 4) (at 4 (omega arith)) .1;
-        difference = within-says 1 6000 (wordAt b 5) (at 5 (omega arith));
-        detection = within-says 1 32767 (wordAt b 6) (at 6 (omega arith));
-        voltage = within-says 0 6000 (wordAt b 7) (at 7 (omega arith)) .1;
-        current = within-says 0 32767 (wordAt b 8) (at 8 (omega arith)) .1;
-      }
-
-  pub accepted-limits : (p : ℕ) → p < 8 → Limited b p
-  unfolding wordOfMet orderedAt
-  accepted-limits p h =
-      let at : (j : ℕ) → j < 64 → met Level b j ≡ true = accepted-met Level in
-      record {
-        trip = level-rule b p 0 (tripWord p) h (omega arith) (omega arith) (at (tripWord p) (omega arith));
-        release = level-rule b p 1 (tripWord p + 1) h (omega arith) refl (at (tripWord p + 1) (omega arith));
-        n = within-says 1 240 (wordAt b (tripWord p + 2)) (level-rule b p 2 (tripWord p + 2) h (omega arith) refl (at (tripWord p + 2) (omega arith)));
-        m = within-says 1 240 (wordAt b (tripWord p + 3)) (level-rule b p 3 (tripWord p + 3) h (omega arith) refl (at (tripWord p + 3) (omega arith)));
-        mask = within-says 0 3 (wordAt b (tripWord p + 4)) (level-rule b p 4 (tripWord p + 4) h (omega arith) refl (at (tripWord p + 4) (omega arith))) .1;
-        order = order-rule b p (tripWord p) h refl (accepted-met Order (tripWord p) (omega arith));
-      }
+  pub accepted-limits : (p : ℕ) → p < protections → Limited b p
+  accepted-limits = words-limited own (omega arith) b (tests .faults)

@@ -1,6 +1,12 @@
-pub mod Accepted
-pub mod Exactly
+-- To be believed: the refusal table 1 to 8 of a page.
 pub mod Page
+-- Each number is given exactly as its row says.
+pub mod Exactly
+-- A taken page with all its byte pairs swapped is refused.
 pub mod Swapped
+-- What an accepted page says of each of its words.
+pub mod Accepted
+-- The table as the judge's code walks it.
 pub mod Walk
+-- The page of document 01's replay example, and pages that differ from it in a few words.
 pub mod Worked

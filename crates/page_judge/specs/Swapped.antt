@@ -17,6 +17,10 @@ swapped [] = []
 swapped (x ∷ []) = x ∷ []
 swapped (x ∷ (y ∷ l)) = y ∷ (x ∷ swapped l)
 
+-- Every pair, not the first alone.
+swapped-pairs : (swapped (1 ∷ 2 ∷ 3 ∷ 4 ∷ []) ∷ swapped (1 ∷ 2 ∷ 3 ∷ []) ∷ []) ≡ ((2 ∷ 1 ∷ 4 ∷ 3 ∷ []) ∷ (2 ∷ 1 ∷ 3 ∷ []) ∷ [])
+swapped-pairs = refl
+
 swapped-length : (b : List ℕ) → length (swapped b) ≡ length b
 swapped-length [] = refl
 swapped-length (x ∷ []) = refl

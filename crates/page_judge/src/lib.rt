@@ -2,29 +2,31 @@
 ghost use mathlib.Core.Path.{_≡_};
 ghost use Rattle.refusals.specs.Refusals.{given};
 ghost use Rattle.refusals.specs.Answers.{answerOf};
-ghost use Rattle.page_judge.specs.Page.{refusals, judged};
-ghost use Rattle.page_judge.specs.Walk.{orElse, lowestFault, faultsOf};
-use page_faults::Fault;
-use page_faults::free_of;
-use page_faults::number_of;
-use page_words::word;
+ghost use Rattle.page_judge.specs.Page.{swappedWord, refusals, judged};
+ghost use Rattle.page_judge.specs.Walk.{orElse, lowestWord, faultsOf};
+use page_faults::Layout;
+use page_faults::check_at;
+use page_faults::meets;
+use page_faults::short_layout;
+use page_words::word_at;
 use refusals::Verdict;
 use refusals::refused;
 
-// The lowest of the 64 words that has the fault.
-fn lowest(page: &[u8], fault: Fault) -> Verdict
-    ensures { λ r. ⌜ r ≡ lowestFault fault (now (page .entry)) ⌝ }
+// The lowest word of the page that does not meet the row.
+fn lowest_word(page: &[u8], layout: Layout, row: u8) -> Verdict
+    ensures { λ r. ⌜ r ≡ lowestWord layout row (now (page .entry)) ⌝ }
 {
-    let mut i: u8 = 0;
-    let mut left: u8 = 64;
+    let mut i: u16 = 0;
+    let mut left: u16 = (layout.last as u16) + 1;
     while 0 < left {
-        if free_of(page, fault, i) {
+        let at = i as u8;
+        if meets(page, layout, row, at) {
             i += 1;
             left -= 1;
         } else {
             return Verdict::Refused {
-                number: number_of(fault),
-                word: i,
+                number: row,
+                word: at,
             };
         }
     }
@@ -41,32 +43,41 @@ fn or_else(first: Verdict, other: Verdict) -> Verdict
 }
 
 // Refusals 5 to 8: the lowest number, and its lowest word.
-fn faults(page: &[u8]) -> Verdict
-    ensures { λ r. ⌜ r ≡ faultsOf (now (page .entry)) ⌝ }
+fn faults_of(page: &[u8], layout: Layout) -> Verdict
+    ensures { λ r. ⌜ r ≡ faultsOf layout (now (page .entry)) ⌝ }
 {
-    let eight = lowest(page, Fault::Order);
-    let seven = or_else(lowest(page, Fault::Level), eight);
-    let six = or_else(lowest(page, Fault::Range), seven);
-    or_else(lowest(page, Fault::Reserved), six)
+    let eight = lowest_word(page, layout, 8);
+    let seven = or_else(lowest_word(page, layout, 7), eight);
+    let six = or_else(lowest_word(page, layout, 6), seven);
+    or_else(lowest_word(page, layout, 5), six)
+}
+
+// A word with its two bytes exchanged.
+fn swapped_word(x: u16) -> u16
+    ensures { λ r. ⌜ r ≡ swappedWord x ⌝ }
+{
+    x / 256 + 256 * (x % 256)
 }
 
 // The verdict on a page of any length. It reads the page and changes nothing.
 pub fn judge(page: &[u8]) -> Verdict
     ensures { λ r. ⌜ (r ≡ judged (now (page .entry))) × (answerOf r ≡ given (refusals (now (page .entry)))) ⌝ }
 {
-    if page.len() != 128 {
+    let layout = short_layout();
+    let end = check_at(layout);
+    if page.len() != end + 1 {
         return refused(1);
     }
-    let mark = word(page, 0);
-    if mark == 0xA417 {
+    let mark = word_at(page, 0);
+    if mark == swapped_word(layout.mark) {
         return refused(2);
     }
-    if mark != 0x17A4 {
+    if mark != layout.mark {
         return refused(3);
     }
-    let before = &page[..127];
-    if page[127] != crc::check_byte(before) {
+    let before = &page[..end];
+    if page[end] != crc::check_byte(before) {
         return refused(4);
     }
-    faults(page)
+    faults_of(page, layout)
 }

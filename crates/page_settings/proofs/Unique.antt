@@ -6,4 +6,4 @@ use Rattle.page_settings.proofs.load.Reads as load
 use Rattle.page_settings.proofs.load.Kinds as load-kinds
 
 load-one : Unique 1 load-kinds.ps load-kinds.r load.Post
-load-one κs a x y s t p q = p ∙ sym q
+load-one κs a x y s t p q = p .0 ∙ sym (q .0)

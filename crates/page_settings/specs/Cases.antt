@@ -1,33 +1,38 @@
--- What the worked page says, and document 01's degrees, computed from the definitions.
+-- What two pages say, and document 01's degrees, computed from the definitions.
 -- Assumes nothing.
 use mathlib.Core.Path.{_≡_, refl}
 use mathlib.Core.List.{List, [], _∷_}
 use Prim.Native.Nat.{ℕ}
+use lib.ListN.{replicate}
 use lib.IntN.{ℤ, pos, negsuc}
+use Rattle.laws.specs.Numbered.{listOf, listFrom}
+use Rattle.units.specs.Levels.{level}
 use Rattle.units.specs.Signed.{signedOf}
 use Rattle.crc.specs.CheckByte.{timesX, timesXs, withByte, remainder, checkByte}
 use Rattle.protections.specs.Table.{rowAt, table}
 use Rattle.protections.specs.declared.Limits.{Limits}
 use Rattle.protections.specs.declared.Quantity.the-variants.{HighestCell, LowestCell, Current, Temperature1, Temperature2}
 use Rattle.page_words.specs.Ranges.{wordAt, within, degreesFit, levelFits, levelOf}
+use Rattle.page_faults.specs.Kinds.{kindOf}
+use Rattle.page_faults.specs.Met.{levelMet, orderMet, onRow, kindMeets, meets}
 use Rattle.page_judge.specs.Page.{refusals, judged}
-use Rattle.page_judge.specs.Worked.{workedPage, minus}
+use Rattle.page_judge.specs.Worked.{workedPage, unlikePage, minusWord}
 use Rattle.refusals.specs.declared.Verdict.the-variants.{Accepted, Refused}
 use Rattle.page_settings.specs.declared.Rules.{Rules}
 use Rattle.page_settings.specs.declared.Settings.{Settings}
-use Rattle.page_settings.specs.Settings.{inDegrees, sampleLevel, limitsAt, limitsOf, rulesOf, settingsOf, noSettings, loadedOf}
+use Rattle.page_settings.specs.Settings.{inDegrees, sampleLevel, limitsFrom, limitsOf, rulesOf, settingsOf, noSettings, loadedOf}
 
 -- ---- levels
 
 abbrev levels : List ℤ
 levels =
     sampleLevel Temperature1 25
-    ∷ sampleLevel Temperature2 (minus 40)
+    ∷ sampleLevel Temperature2 (minusWord 40)
     ∷ sampleLevel Temperature1 120
     ∷ sampleLevel HighestCell 4250
     ∷ sampleLevel LowestCell 2600
-    ∷ sampleLevel Current (minus 32768)
-    ∷ sampleLevel Current (minus 1)
+    ∷ sampleLevel Current (minusWord 32768)
+    ∷ sampleLevel Current (minusWord 1)
     ∷ []
 
 -- 25 °C is 2980, -40 °C is 2330, 120 °C is 3930; cells are mV as they stand, currents signed.
@@ -37,8 +42,8 @@ levels-are = refl
 
 -- ---- the worked page
 
-abbrev pub limits : ℤ → ℤ → ℕ → Limits
-limits trip release mask = record { trip = trip; release = release; n = 2; m = 2; mask = mask }
+abbrev limits : ℤ → ℤ → ℕ → ℕ → ℕ → Limits
+limits trip release n m mask = record { trip = level trip; release = level release; n = n; m = m; mask = mask }
 
 abbrev pub workedRules : Rules
 workedRules =
@@ -58,23 +63,75 @@ worked =
     record {
       rules = workedRules;
       limits =
-          limits (pos 4250) (pos 4150) 1
-          ∷ limits (pos 2500) (pos 2600) 2
-          ∷ limits (pos 3000) (pos 2500) 1
-          ∷ limits (negsuc 4999) (negsuc 3999) 2
-          ∷ limits (negsuc 19999) (negsuc 99) 3
-          ∷ limits (pos 3180) (pos 3130) 1
-          ∷ limits (pos 3330) (pos 3280) 2
-          ∷ limits (pos 3530) (pos 3430) 3
+          limits (pos 4250) (pos 4150) 2 2 1
+          ∷ limits (pos 2500) (pos 2600) 2 2 2
+          ∷ limits (pos 3000) (pos 2500) 2 2 1
+          ∷ limits (negsuc 4999) (negsuc 3999) 2 2 2
+          ∷ limits (negsuc 19999) (negsuc 99) 2 2 3
+          ∷ limits (pos 3180) (pos 3130) 2 2 1
+          ∷ limits (pos 3330) (pos 3280) 2 2 2
+          ∷ limits (pos 3530) (pos 3430) 2 2 3
           ∷ [];
     }
 
 pub worked-loaded : loadedOf workedPage ≡ record { verdict = Accepted; settings = worked }
-unfolding loadedOf settingsOf rulesOf limitsOf limitsAt sampleLevel inDegrees levelOf signedOf judged refusals wordAt within degreesFit
-    levelFits rowAt table checkByte remainder withByte timesXs timesX
+unfolding loadedOf settingsOf rulesOf limitsOf limitsFrom sampleLevel inDegrees levelOf signedOf judged refusals meets kindOf kindMeets onRow
+    levelMet orderMet listOf listFrom wordAt within degreesFit levelFits rowAt table checkByte remainder withByte timesXs timesX
 worked-loaded = refl
 
--- A refused page says nothing.
-none-loaded : loadedOf [] ≡ record { verdict = Refused 1 0; settings = noSettings }
-unfolding loadedOf settingsOf rulesOf judged refusals wordAt within degreesFit levelFits levelOf signedOf rowAt table checkByte remainder
+-- ---- a page whose words are all unlike: each is read where it belongs
+
+abbrev unlike : Settings
+unlike =
+    record {
+      rules =
+          record {
+            n = 7;
+            k = 3;
+            r = 200;
+            floor = record { 0 = 3700 };
+            difference = record { 0 = 25 };
+            detection = pos 150;
+            voltage = record { 0 = 4180 };
+            current = pos 1700;
+          };
+      limits =
+          limits (pos 4300) (pos 4100) 4 5 0
+          ∷ limits (pos 2600) (pos 2750) 6 7 1
+          ∷ limits (pos 2000) (negsuc 299) 8 9 2
+          ∷ limits (negsuc 3999) (negsuc 3499) 10 11 3
+          ∷ limits (negsuc 32767) (pos 5) 12 13 0
+          ∷ limits (pos 3230) (pos 2330) 14 15 1
+          ∷ limits (pos 3380) (pos 2730) 16 17 2
+          ∷ limits (pos 3930) (pos 2680) 240 239 3
+          ∷ [];
+    }
+
+unlike-loaded : loadedOf unlikePage ≡ record { verdict = Accepted; settings = unlike }
+unfolding loadedOf settingsOf rulesOf limitsOf limitsFrom sampleLevel inDegrees levelOf signedOf judged refusals meets kindOf kindMeets onRow
+    levelMet orderMet listOf listFrom wordAt within degreesFit levelFits rowAt table checkByte remainder withByte timesXs timesX
+unlike-loaded = refl
+
+-- ---- a refused page says nothing: no cell, no protection, 0 throughout
+
+abbrev silent : Settings
+silent =
+    record {
+      rules =
+          record {
+            n = 0;
+            k = 0;
+            r = 0;
+            floor = record { 0 = 0 };
+            difference = record { 0 = 0 };
+            detection = pos 0;
+            voltage = record { 0 = 0 };
+            current = pos 0;
+          };
+      limits = replicate 8 (limits (pos 0) (pos 0) 0 0 0);
+    }
+
+none-loaded : loadedOf [] ≡ record { verdict = Refused 1 0; settings = silent }
+unfolding loadedOf settingsOf rulesOf noSettings judged refusals meets kindOf kindMeets onRow levelMet orderMet listFrom wordAt within
+    degreesFit levelFits levelOf signedOf rowAt table checkByte remainder
 none-loaded = refl

@@ -1,17 +1,21 @@
 -- What an accepted settings page says, in the units of the samples.
 -- Assumes nothing.
 use mathlib.Core.Bool.{Bool, true, false, cond}
-use mathlib.Core.List.{List, map}
+use mathlib.Core.List.{List}
 use Prim.Native.Nat.{ℕ, _+_}
 use lib.ListN.{replicate}
 use lib.IntN.{ℤ, pos, _+ℤ_, _*ℤ_}
+use Rattle.laws.specs.Numbered.{listOf}
+use Rattle.units.specs.Levels.{level}
 use Rattle.units.specs.Signed.{signedOf}
+use Rattle.protections.specs.Limits.{noLimits}
 use Rattle.protections.specs.Table.{rowAt, protections}
 use Rattle.protections.specs.declared.Limits.{Limits}
 use Rattle.protections.specs.declared.Quantity.{Quantity}
 use Rattle.protections.specs.declared.Quantity.the-variants.{HighestCell, LowestCell, Current, Temperature1, Temperature2}
 use Rattle.page_words.specs.Ranges.{wordAt, levelOf}
-use Rattle.page_judge.specs.Page.{tripWord, countFrom, judged}
+use Rattle.page_faults.specs.Kinds.{tripWord}
+use Rattle.page_judge.specs.Page.{judged}
 use Rattle.refusals.specs.declared.Verdict.{Verdict}
 use Rattle.refusals.specs.declared.Verdict.the-variants.{Accepted, Refused}
 use Rattle.page_settings.specs.declared.Rules.{Rules}
@@ -31,20 +35,20 @@ unfoldable pub sampleLevel : Quantity → ℕ → ℤ
 sampleLevel q x = cond (inDegrees q) (pos 10 *ℤ levelOf q x +ℤ pos 2730) (levelOf q x)
 
 -- What the page b says of protection p: "trip, release, N, M, switch mask".
-unfoldable pub limitsAt : List ℕ → ℕ → Limits
-limitsAt b p =
+unfoldable pub limitsFrom : List ℕ → ℕ → Limits
+limitsFrom b p =
     let at = tripWord p in
     record {
-      trip = sampleLevel (rowAt p .quantity) (wordAt b at);
-      release = sampleLevel (rowAt p .quantity) (wordAt b (at + 1));
+      trip = level (sampleLevel (rowAt p .quantity) (wordAt b at));
+      release = level (sampleLevel (rowAt p .quantity) (wordAt b (at + 1)));
       n = wordAt b (at + 2);
       m = wordAt b (at + 3);
       mask = wordAt b (at + 4);
     }
 
--- Of all eight, in the order of their numbers.
+-- Of each protection, in the order of their numbers.
 unfoldable pub limitsOf : List ℕ → List Limits
-limitsOf b = map (limitsAt b) (countFrom 0 protections)
+limitsOf b = listOf (limitsFrom b) protections
 
 -- What the page b says in its words 1 to 8.
 unfoldable pub rulesOf : List ℕ → Rules
@@ -65,9 +69,6 @@ unfoldable pub settingsOf : List ℕ → Settings
 settingsOf b = record { rules = rulesOf b; limits = limitsOf b }
 
 -- What stands for the settings of a page that is refused.
-abbrev pub noLimits : Limits
-noLimits = record { trip = pos 0; release = pos 0; n = 0; m = 0; mask = 0 }
-
 abbrev pub noRules : Rules
 noRules =
     record {

@@ -1,14 +1,24 @@
 // What an accepted settings page says, in the units of the samples.
 ghost use mathlib.Core.Path.{_≡_};
 ghost use Prim.Native.Nat.{_≤_, _<_};
+ghost use Rattle.units.specs.Levels.{level};
+ghost use Rattle.protections.specs.Limits.{noLimits};
+ghost use Rattle.protections.specs.Table.{protections};
 ghost use Rattle.page_words.specs.Ranges.{wordAt};
-ghost use Rattle.page_judge.specs.Page.{judged};
+ghost use Rattle.page_judge.specs.Page.{judged, refusals};
+ghost use Rattle.refusals.specs.Refusals.{given};
+ghost use Rattle.refusals.specs.Answers.{answerOf};
 ghost use Rattle.refusals.specs.declared.Verdict.the-variants.{Accepted};
-ghost use Rattle.page_settings.specs.Settings.{inDegrees, sampleLevel, limitsAt, noLimits, limitsOf, rulesOf, settingsOf, noSettings, loadedOf};
+ghost use Rattle.page_settings.specs.Settings.{inDegrees, sampleLevel, limitsFrom, limitsOf, rulesOf, settingsOf, noSettings, loadedOf};
+use page_faults::trip_word;
+use page_words::level_of;
+use page_words::word_at;
 use protections::Limits;
+use protections::PROTECTIONS;
 use protections::Quantity;
 use protections::row_of;
 use refusals::Verdict;
+use units::Level;
 use units::MilliVolts;
 use units::ProtectionNo;
 use units::signed_of;
@@ -26,10 +36,10 @@ pub struct Rules {
     pub current: i16,
 }
 
-// The settings: words 1 to 8, and the limits of the eight protections.
+// The settings: words 1 to 8, and the limits of every protection.
 pub struct Settings {
     pub rules: Rules,
-    pub limits: [Limits; 8],
+    pub limits: [Limits; PROTECTIONS],
 }
 
 // A page's verdict, and what it says if it is accepted.
@@ -52,34 +62,35 @@ fn in_degrees(quantity: Quantity) -> bool
 }
 
 // The trip or release level that a word stands for, in the sample's unit.
-fn sample_level(quantity: Quantity, x: u16) -> i32
-    ensures { λ r. ⌜ r ≡ sampleLevel quantity x ⌝ }
+fn sample_level(quantity: Quantity, x: u16) -> Level
+    ensures { λ r. ⌜ r ≡ level (sampleLevel quantity x) ⌝ }
 {
-    let z = page_words::level(quantity, x);
+    let z = level_of(quantity, x);
     if in_degrees(quantity) {
-        return 10 * z + 2730;
+        let tenths = 10 * z.0 + 2730;
+        return Level(tenths);
     }
-    z
+    Level(z.0)
 }
 
 // A word that fits a byte.
-fn small(page: &[u8], i: u8) -> u8
+fn small(page: &[u8], i: u16) -> u8
     requires { ⌜ wordAt (now page) i ≤ 255 ⌝ }
     ensures { λ r. ⌜ r ≡ wordAt (now (page .entry)) i ⌝ }
 {
-    page_words::word(page, i) as u8
+    word_at(page, i) as u8
 }
 
-// What an accepted page says of protection p.
-fn limits_at(page: &[u8], p: u8) -> Limits
-    requires { ⌜ (judged (now page) ≡ Accepted) × (p < 8) ⌝ }
-    ensures { λ r. ⌜ r ≡ limitsAt (now (page .entry)) p ⌝ }
+// What an accepted page says of protection p: the five words from its trip word on.
+fn limits_from(page: &[u8], p: ProtectionNo) -> Limits
+    requires { ⌜ (judged (now page) ≡ Accepted) × (p .0 < protections) ⌝ }
+    ensures { λ r. ⌜ r ≡ limitsFrom (now (page .entry)) (p .0) ⌝ }
 {
-    let row = row_of(ProtectionNo(p));
+    let row = row_of(p);
     let quantity = row.quantity;
-    let at = 16 + 5 * p;
-    let trip = sample_level(quantity, page_words::word(page, at));
-    let release = sample_level(quantity, page_words::word(page, at + 1));
+    let at = trip_word(p);
+    let trip = sample_level(quantity, word_at(page, at));
+    let release = sample_level(quantity, word_at(page, at + 1));
     let n = small(page, at + 2);
     let m = small(page, at + 3);
     let mask = small(page, at + 4);
@@ -96,24 +107,24 @@ fn no_limits() -> Limits
     ensures { λ r. ⌜ r ≡ noLimits ⌝ }
 {
     Limits {
-        trip: 0,
-        release: 0,
+        trip: Level(0),
+        release: Level(0),
         n: 0,
         m: 0,
         mask: 0,
     }
 }
 
-// What an accepted page says of each of the eight protections.
-fn limits_of(page: &[u8]) -> [Limits; 8]
+// What an accepted page says of each protection.
+fn limits_of(page: &[u8]) -> [Limits; PROTECTIONS]
     requires { ⌜ judged (now page) ≡ Accepted ⌝ }
     ensures { λ r. ⌜ r ≡ limitsOf (now (page .entry)) ⌝ }
 {
     let none = no_limits();
-    let mut all = [none; 8];
+    let mut all = [none; PROTECTIONS];
     let mut p: u8 = 0;
-    while p < 8 {
-        all[p as usize] = limits_at(page, p);
+    while (p as usize) < PROTECTIONS {
+        all[p as usize] = limits_from(page, ProtectionNo(p));
         p += 1;
     }
     all
@@ -127,11 +138,11 @@ fn rules_of(page: &[u8]) -> Rules
     let n = small(page, 1);
     let k = small(page, 2);
     let r = small(page, 3);
-    let floor = MilliVolts(page_words::word(page, 4));
-    let difference = MilliVolts(page_words::word(page, 5));
-    let detection = signed_of(page_words::word(page, 6));
-    let voltage = MilliVolts(page_words::word(page, 7));
-    let current = signed_of(page_words::word(page, 8));
+    let floor = MilliVolts(word_at(page, 4));
+    let difference = MilliVolts(word_at(page, 5));
+    let detection = signed_of(word_at(page, 6));
+    let voltage = MilliVolts(word_at(page, 7));
+    let current = signed_of(word_at(page, 8));
     Rules {
         n: n,
         k: k,
@@ -162,7 +173,7 @@ fn no_settings() -> Settings
     ensures { λ r. ⌜ r ≡ noSettings ⌝ }
 {
     let none = no_limits();
-    let limits = [none; 8];
+    let limits = [none; PROTECTIONS];
     let rules = Rules {
         n: 0,
         k: 0,
@@ -179,9 +190,9 @@ fn no_settings() -> Settings
     }
 }
 
-// Judges a page of any length, and reads its settings if it is accepted.
+// Judges a page of any length, and reads its settings if it is accepted. The verdict has the number and word of the refusal table.
 pub fn load(page: &[u8]) -> Loaded
-    ensures { λ r. ⌜ r ≡ loadedOf (now (page .entry)) ⌝ }
+    ensures { λ r. ⌜ (r ≡ loadedOf (now (page .entry))) × (answerOf (r .verdict) ≡ given (refusals (now (page .entry)))) ⌝ }
 {
     let verdict = page_judge::judge(page);
     match verdict {

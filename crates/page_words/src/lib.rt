@@ -2,11 +2,13 @@
 ghost use mathlib.Core.Path.{_≡_};
 ghost use Prim.Native.Nat.{_≤_};
 ghost use lib.ListN.{getD};
+ghost use Rattle.units.specs.Levels.{pageLevel};
 ghost use Rattle.units.specs.Signed.{signedOf};
 ghost use Rattle.protections.specs.Direction.{inOrder};
 ghost use Rattle.page_words.specs.Ranges.{wordAt, within, degreesFit, levelFits, levelOf};
 use protections::Direction;
 use protections::Quantity;
+use units::PageLevel;
 use units::signed_of;
 
 // A byte of the page; past its end it reads as 0.
@@ -27,7 +29,7 @@ fn wide(b: u8) -> u16
 }
 
 // Word i of the page, low byte first; past the end of the page it reads as 0.
-pub fn word(page: &[u8], i: u8) -> u16
+pub fn word_at(page: &[u8], i: u16) -> u16
     ensures { λ r. ⌜ r ≡ wordAt (now (page .entry)) i ⌝ }
 {
     let at = 2 * (i as usize);
@@ -37,7 +39,7 @@ pub fn word(page: &[u8], i: u8) -> u16
 }
 
 // Whether a value is one of low..high.
-pub fn inside(low: u16, high: u16, x: u16) -> bool
+pub fn within(low: u16, high: u16, x: u16) -> bool
     ensures { λ r. ⌜ r ≡ within low high x ⌝ }
 {
     if low <= x {
@@ -61,8 +63,8 @@ pub fn level_fits(quantity: Quantity, x: u16) -> bool
     ensures { λ r. ⌜ r ≡ levelFits quantity x ⌝ }
 {
     match quantity {
-        Quantity::HighestCell => inside(0, 6000, x),
-        Quantity::LowestCell => inside(0, 6000, x),
+        Quantity::HighestCell => within(0, 6000, x),
+        Quantity::LowestCell => within(0, 6000, x),
         Quantity::Current => true,
         Quantity::Temperature1 => degrees_fit(signed_of(x)),
         Quantity::Temperature2 => degrees_fit(signed_of(x)),
@@ -77,24 +79,24 @@ fn signed(x: u16) -> i32
 }
 
 // A trip or release word as the number that it stands for on the page: mV, mA or degrees.
-pub fn level(quantity: Quantity, x: u16) -> i32
-    ensures { λ r. ⌜ r ≡ levelOf quantity x ⌝ }
+pub fn level_of(quantity: Quantity, x: u16) -> PageLevel
+    ensures { λ r. ⌜ r ≡ pageLevel (levelOf quantity x) ⌝ }
 {
     match quantity {
-        Quantity::HighestCell => x as i32,
-        Quantity::LowestCell => x as i32,
-        Quantity::Current => signed(x),
-        Quantity::Temperature1 => signed(x),
-        Quantity::Temperature2 => signed(x),
+        Quantity::HighestCell => PageLevel(x as i32),
+        Quantity::LowestCell => PageLevel(x as i32),
+        Quantity::Current => PageLevel(signed(x)),
+        Quantity::Temperature1 => PageLevel(signed(x)),
+        Quantity::Temperature2 => PageLevel(signed(x)),
     }
 }
 
 // Whether trip and release stand in the order of the direction.
-pub fn in_order(direction: Direction, trip: i32, release: i32) -> bool
-    ensures { λ r. ⌜ r ≡ inOrder direction trip release ⌝ }
+pub fn in_order(direction: Direction, trip: PageLevel, release: PageLevel) -> bool
+    ensures { λ r. ⌜ r ≡ inOrder direction (trip .0) (release .0) ⌝ }
 {
     match direction {
-        Direction::Above => release < trip,
-        Direction::Below => trip < release,
+        Direction::Above => release.0 < trip.0,
+        Direction::Below => trip.0 < release.0,
     }
 }

@@ -46,7 +46,7 @@ table =
 abbrev pub protections : ℕ
 protections = 8
 
-pub table-length : length table ≡ protections
+table-length : length table ≡ protections
 unfolding table
 table-length = refl
 

@@ -1,6 +1,8 @@
 // Document 01's table of the eight protections: what each looks at, which way it trips, its mode number.
 ghost use mathlib.Core.Path.{_≡_};
+ghost use Rattle.protections.specs.Direction.{back};
 ghost use Rattle.protections.specs.Table.{rowWith, rowAt};
+use units::Level;
 use units::ProtectionNo;
 
 // How many protections a page and a pack state hold.
@@ -27,10 +29,20 @@ pub enum Mode {
     Number(u8),
 }
 
-// What a page says of one protection: levels in the sample's unit (mV, mA, tenths of a kelvin), the two run lengths, the switch mask.
+// The direction in which a protection releases: the other one.
+pub fn back_of(d: Direction) -> Direction
+    ensures { λ r. ⌜ r ≡ back d ⌝ }
+{
+    match d {
+        Direction::Above => Direction::Below,
+        Direction::Below => Direction::Above,
+    }
+}
+
+// What a page says of one protection: its levels, in the unit of what it looks at, the two run lengths, the switch mask.
 pub struct Limits {
-    pub trip: i32,
-    pub release: i32,
+    pub trip: Level,
+    pub release: Level,
     pub n: u8,
     pub m: u8,
     pub mask: u8,
@@ -43,7 +55,7 @@ pub struct Row {
     pub mode: Mode,
 }
 
-fn entry(quantity: Quantity, direction: Direction, mode: Mode) -> Row
+fn row_with(quantity: Quantity, direction: Direction, mode: Mode) -> Row
     ensures { λ r. ⌜ r ≡ rowWith quantity direction mode ⌝ }
 {
     Row {
@@ -59,13 +71,13 @@ pub fn row_of(p: ProtectionNo) -> Row
 {
     let k = p.0;
     match k {
-        0 => entry(Quantity::HighestCell, Direction::Above, Mode::Number(0x15)),
-        1 => entry(Quantity::LowestCell, Direction::Below, Mode::Silent),
-        2 => entry(Quantity::Current, Direction::Above, Mode::Number(0x12)),
-        3 => entry(Quantity::Current, Direction::Below, Mode::Number(0x13)),
-        4 => entry(Quantity::Current, Direction::Below, Mode::Number(0x14)),
-        5 => entry(Quantity::Temperature1, Direction::Above, Mode::Number(0x10)),
-        6 => entry(Quantity::Temperature1, Direction::Above, Mode::Number(0x11)),
-        _ => entry(Quantity::Temperature2, Direction::Above, Mode::Number(0x16)),
+        0 => row_with(Quantity::HighestCell, Direction::Above, Mode::Number(0x15)),
+        1 => row_with(Quantity::LowestCell, Direction::Below, Mode::Silent),
+        2 => row_with(Quantity::Current, Direction::Above, Mode::Number(0x12)),
+        3 => row_with(Quantity::Current, Direction::Below, Mode::Number(0x13)),
+        4 => row_with(Quantity::Current, Direction::Below, Mode::Number(0x14)),
+        5 => row_with(Quantity::Temperature1, Direction::Above, Mode::Number(0x10)),
+        6 => row_with(Quantity::Temperature1, Direction::Above, Mode::Number(0x11)),
+        _ => row_with(Quantity::Temperature2, Direction::Above, Mode::Number(0x16)),
     }
 }

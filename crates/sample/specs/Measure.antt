@@ -30,11 +30,11 @@ measure q s = measureWith (extremesOf (s .cells) (s .count)) q s
 
 -- "Trips": at or above the trip level, or at or below it, as the row says.
 abbrev pub trips : Row → Limits → Sample → Bool
-trips row l s = reaches (row .direction) (l .trip) (measure (row .quantity) s)
+trips row l s = reaches (row .direction) (l .trip .0) (measure (row .quantity) s)
 
 -- "Releases": the other way round, at the release level.
 abbrev pub qualifies : Row → Limits → Sample → Bool
-qualifies row l s = reaches (back (row .direction)) (l .release) (measure (row .quantity) s)
+qualifies row l s = reaches (back (row .direction)) (l .release .0) (measure (row .quantity) s)
 
 -- "A sample between the two levels": past the release level and short of the trip level.
 abbrev pub between : Direction → ℤ → ℤ → ℤ → Bool

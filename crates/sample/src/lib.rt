@@ -1,10 +1,12 @@
 // The quantities of a sample, which the protections look at: its highest and lowest cell, its current, its temperatures.
 ghost use mathlib.Core.Path.{_≡_};
+ghost use Rattle.units.specs.Levels.{level};
 ghost use Rattle.sample.specs.Cells.{larger, smaller, widen, extremesOf};
 ghost use Rattle.sample.specs.Measure.{measureWith};
 ghost use Rattle.sample.specs.None.{noSample};
 use protections::Quantity;
 use units::DeciKelvin;
+use units::Level;
 use units::MilliVolts;
 use units::looked_at;
 
@@ -97,15 +99,15 @@ pub fn extremes_of(cells: [MilliVolts; 10], count: u8) -> Extremes
 
 // ---- what a protection looks at
 
-// The quantity of a sample whose extremes are e, as one signed number: the one place where kinds of number meet.
-pub fn measured(q: Quantity, s: Sample, e: Extremes) -> i32
-    ensures { λ r. ⌜ r ≡ measureWith e q s ⌝ }
+// The quantity of a sample whose extremes are e, as a level: millivolts, a current or a temperature becomes what levels are held against.
+pub fn measured(q: Quantity, s: Sample, e: Extremes) -> Level
+    ensures { λ r. ⌜ r ≡ level (measureWith e q s) ⌝ }
 {
     match q {
-        Quantity::HighestCell => e.highest.0 as i32,
-        Quantity::LowestCell => e.lowest.0 as i32,
-        Quantity::Current => s.current as i32,
-        Quantity::Temperature1 => s.t1.0 as i32,
-        Quantity::Temperature2 => s.t2.0 as i32,
+        Quantity::HighestCell => Level(e.highest.0 as i32),
+        Quantity::LowestCell => Level(e.lowest.0 as i32),
+        Quantity::Current => Level(s.current as i32),
+        Quantity::Temperature1 => Level(s.t1.0 as i32),
+        Quantity::Temperature2 => Level(s.t2.0 as i32),
     }
 }

@@ -15,6 +15,12 @@ pub struct CellNo(pub u8);
 // The number p of a protection, from 0.
 pub struct ProtectionNo(pub u8);
 
+// What a protection looks at and the levels it is held against, in the unit of the samples: mV, mA or tenths of a kelvin.
+pub struct Level(pub i32);
+
+// A trip or release level in the unit of the page: mV, mA or degrees.
+pub struct PageLevel(pub i32);
+
 // How many entries of an array of ten are cells: a number over ten stands for ten.
 pub fn looked_at(count: u8) -> usize
     ensures { λ r. ⌜ r ≡ lookedAt count ⌝ }

@@ -19,6 +19,8 @@ use Rattle.text_numbers.specs.Numbers as numbers-numbers
 use Rattle.log_lines.specs.Lines as lines-lines
 use Rattle.log_lines.specs.Output as lines-output
 use Rattle.page_words.specs.Ranges as ranges-ranges
+use Rattle.page_faults.specs.Kinds as faults-kinds
+use Rattle.page_faults.specs.Met as faults-met
 use Rattle.page_judge.specs.Page as page-page
 use Rattle.page_settings.specs.Settings as settings-settings
 use Rattle.sample.specs.Cells as quantities-cells
@@ -62,7 +64,8 @@ unfolding laws-bits.hasBit laws-bits.withBitIf laws-each.eachTo units-signed.sig
     crc-checkbyte.timesXs crc-checkbyte.withByte crc-checkbyte.remainder crc-checkbyte.checkByte text-decimal.decimal text-fields.fieldsOf
     text-finding.lacks numbers-numbers.digitsTo numbers-numbers.numberTo numbers-numbers.signedOf lines-lines.linesOf lines-output.answers
     lines-output.output ranges-ranges.wordAt ranges-ranges.within ranges-ranges.degreesFit ranges-ranges.levelFits ranges-ranges.levelOf
-    page-page.refusals page-page.judged settings-settings.inDegrees settings-settings.sampleLevel settings-settings.limitsAt
+    faults-kinds.kindOf faults-met.levelMet faults-met.orderMet faults-met.onRow faults-met.kindMeets faults-met.meets
+    page-page.refusals page-page.judged settings-settings.inDegrees settings-settings.sampleLevel settings-settings.limitsFrom
     settings-settings.limitsOf settings-settings.rulesOf settings-settings.settingsOf settings-settings.noSettings
     settings-settings.loadedOf quantities-cells.bestOf quantities-cells.widen quantities-cells.extremesOf laws-numbered.listFrom
     laws-numbered.listOf guard-steps.raised guard-steps.protectionOf guard-steps.protectionsOf guard-steps.stepOne guard-steps.stepWith

@@ -2,23 +2,25 @@
 -- Assumes nothing.
 use mathlib.Core.Path.{_≡_, refl, sym, ap₂, _∙_}
 use mathlib.Core.Bool.{Bool, true, false, _&&_, true≢false}
-use mathlib.Core.List.{List, [], _∷_, _++_}
-use Prim.Native.Nat.{ℕ}
+use mathlib.Core.List.{List, [], _∷_, _++_, map}
+use Prim.Native.Nat.{ℕ, _+_}
 use native.Mathlib.Omega.{arith}
 use borrow.Author.Tests.{eqb-true, eq-eqb}
 use lib.Dec.{eqb}
 use lib.ListN.{length, getD, take, set, length-set}
 use lib.Seq.{getD-set-same, getD-set-other, take-set-le}
+use Rattle.laws.specs.Numbered.{countFrom, listFrom}
 use Rattle.laws.specs.Tests.{and-left, and-right}
 use Rattle.units.specs.Signed.{signedOf}
 use Rattle.crc.specs.CheckByte.{timesX, timesXs, withByte, remainder, checkByte}
 use Rattle.protections.specs.Table.{rowAt, table}
 use Rattle.page_words.specs.Ranges.{wordAt, within, degreesFit, levelFits, levelOf}
 use Rattle.page_judge.specs.Page.{refusals, judged}
-use Rattle.page_faults.specs.Met.{reservedMet, rangeMet, wordOfMet, levelMet, orderedAt, orderMet, met}
-use Rattle.page_judge.specs.Walk.{lowestFrom, lowestFault, faultsOf, judged-is}
+use Rattle.page_faults.specs.Kinds.{shortLayout, tripWord, kindOf}
+use Rattle.page_faults.specs.Met.{levelMet, orderMet, onRow, kindMeets, meets}
+use Rattle.page_judge.specs.Walk.{lowestWord, faultsOf, judged-is}
 use Rattle.page_judge.specs.Swapped.{swapped}
-use Rattle.page_judge.specs.Worked.{workedPage, put, minus, Change, changed, sealed, pageWith}
+use Rattle.page_judge.specs.Worked.{workedPage, put, minusWord, Change, changed, sealed, pageWith}
 use Rattle.refusals.specs.declared.Verdict.{Verdict}
 use Rattle.refusals.specs.declared.Verdict.the-variants.{Accepted, Refused}
 
@@ -66,7 +68,7 @@ allJudged [] = true
 allJudged (c ∷ cs) = agree (judged (c .bytes)) (c .verdict) && allJudged cs
 
 pages-judged : allJudged pages ≡ true
-unfolding pages judged refusals wordAt within degreesFit levelFits levelOf signedOf rowAt table checkByte remainder withByte timesXs timesX
+unfolding pages judged refusals meets kindOf kindMeets onRow levelMet orderMet listFrom wordAt within degreesFit levelFits levelOf signedOf rowAt table checkByte remainder withByte timesXs timesX
 pages-judged = refl
 
 -- ---- words of the worked page changed, and its check byte made to fit
@@ -81,14 +83,45 @@ taken cs = record { changes = cs; verdict = Accepted }
 abbrev refused : ℕ → ℕ → List Change → Case
 refused k w cs = record { changes = cs; verdict = Refused k w }
 
+-- Each of the words w alone holds x, and is named by refusal k.
+abbrev each : ℕ → ℕ → List ℕ → List Case
+each k x = map (λ (w : ℕ). refused k w (one w x))
+
+abbrev reserved : List ℕ
+reserved = countFrom 9 7 ++ countFrom 56 7
+
+-- The levels of the cells and of the temperatures; word f of every protection.
+abbrev cellLevels : List ℕ
+cellLevels = 16 ∷ 17 ∷ 21 ∷ 22 ∷ []
+
+abbrev heatLevels : List ℕ
+heatLevels = 41 ∷ 42 ∷ 46 ∷ 47 ∷ 51 ∷ 52 ∷ []
+
+abbrev words : ℕ → List ℕ
+words f = map (λ (p : ℕ). tripWord p + f) (countFrom 0 8)
+
+abbrev all : ℕ → ℕ → List Change
+all f x = map (λ (w : ℕ). put w x) (words f)
+
+-- One word of each kind at both sides of each of its ends.
+abbrev ends : List Case
+ends =
+    each 5 0x0001 reserved ++ each 5 0x0100 reserved
+    ++ each 7 6001 cellLevels
+    ++ each 7 121 heatLevels ++ each 7 (minusWord 41) heatLevels
+    ++ each 7 0 (words 2) ++ each 7 241 (words 2)
+    ++ each 7 0 (words 3) ++ each 7 241 (words 3)
+    ++ each 7 4 (words 4)
+    ++ taken (all 2 1 ++ all 3 240 ++ all 4 0)
+    ∷ taken (all 2 240 ++ all 3 1 ++ all 4 3)
+    ∷ taken (put 41 120 ∷ put 42 119 ∷ put 46 120 ∷ put 47 119 ∷ put 51 120 ∷ put 52 119 ∷ [])
+    ∷ taken (put 41 (minusWord 39) ∷ put 42 (minusWord 40) ∷ put 46 (minusWord 39) ∷ put 47 (minusWord 40) ∷ put 51 (minusWord 39) ∷ put 52 (minusWord 40) ∷ [])
+    ∷ []
+
 unfoldable cases : List Case
 cases =
-    -- 5: each reserved word, and byte 126
-    refused 5 9 (one 9 1)
-    ∷ refused 5 15 (one 15 0x8000)
-    ∷ refused 5 56 (one 56 1)
-    ∷ refused 5 62 (one 62 1)
-    ∷ refused 5 63 (one 63 1)
+    ends
+    ++ refused 5 63 (one 63 1)  -- 5: byte 126
     ∷ refused 5 62 (put 1 11 ∷ put 62 1 ∷ [])  -- 5 before 6
     ∷ refused 5 9 (put 63 1 ∷ put 62 1 ∷ put 9 1 ∷ [])  -- the lowest word
     -- 6: both ends of words 1 to 8
@@ -108,35 +141,23 @@ cases =
     ∷ refused 6 7 (one 7 6001)
     ∷ refused 6 8 (one 8 32768)
     ∷ refused 6 8 (put 8 40000 ∷ put 16 6001 ∷ [])  -- 6 before 7
-    -- 7: both ends of the levels, N, M and mask
+    -- 7: the levels
     ∷ taken (put 16 6000 ∷ put 17 0 ∷ put 18 1 ∷ put 19 1 ∷ put 20 0 ∷ [])
     ∷ taken (put 21 0 ∷ put 22 6000 ∷ put 23 240 ∷ put 24 240 ∷ put 25 3 ∷ [])
     ∷ refused 7 16 (one 16 0x9A10)  -- 4250 read backwards
-    ∷ refused 7 16 (one 16 6001)
-    ∷ refused 7 22 (one 22 6001)
-    ∷ refused 7 18 (one 18 0)
-    ∷ refused 7 18 (one 18 241)
-    ∷ refused 7 54 (one 54 0)
-    ∷ refused 7 54 (one 54 241)
-    ∷ refused 7 55 (one 55 4)
-    ∷ taken (put 26 1 ∷ put 27 (minus 1) ∷ put 31 (minus 32768) ∷ put 32 1 ∷ put 36 (minus 32768) ∷ put 37 (minus 1) ∷ [])
-    ∷ taken (put 26 32767 ∷ put 27 (minus 32768) ∷ put 31 (minus 1) ∷ put 32 32767 ∷ [])
-    ∷ taken (put 41 120 ∷ put 42 (minus 40) ∷ put 46 120 ∷ put 47 (minus 40) ∷ put 51 (minus 39) ∷ put 52 (minus 40) ∷ [])
-    ∷ refused 7 41 (one 41 121)
-    ∷ refused 7 42 (one 42 (minus 41))
-    ∷ refused 7 46 (one 46 121)
-    ∷ refused 7 52 (one 52 (minus 41))
+    ∷ taken (put 26 1 ∷ put 27 (minusWord 1) ∷ put 31 (minusWord 32768) ∷ put 32 1 ∷ put 36 (minusWord 32768) ∷ put 37 (minusWord 1) ∷ [])
+    ∷ taken (put 26 32767 ∷ put 27 (minusWord 32768) ∷ put 31 (minusWord 1) ∷ put 32 32767 ∷ [])
     ∷ refused 7 55 (put 16 4150 ∷ put 55 4 ∷ [])  -- 7 before 8
     -- 8: equal levels, and levels the other way round, in each direction
     ∷ refused 8 16 (one 16 4150)
     ∷ refused 8 16 (put 16 4150 ∷ put 17 4250 ∷ [])
     ∷ refused 8 21 (one 21 2600)
     ∷ refused 8 21 (one 21 2601)
-    ∷ refused 8 26 (put 26 (minus 1) ∷ put 27 1 ∷ [])
-    ∷ refused 8 31 (one 31 (minus 4000))
-    ∷ refused 8 36 (put 36 1 ∷ put 37 (minus 1) ∷ [])
+    ∷ refused 8 26 (put 26 (minusWord 1) ∷ put 27 1 ∷ [])
+    ∷ refused 8 31 (one 31 (minusWord 4000))
+    ∷ refused 8 36 (put 36 1 ∷ put 37 (minusWord 1) ∷ [])
     ∷ refused 8 41 (one 41 40)
-    ∷ refused 8 46 (put 46 (minus 1) ∷ put 47 0 ∷ [])
+    ∷ refused 8 46 (put 46 (minusWord 1) ∷ put 47 0 ∷ [])
     ∷ refused 8 51 (one 51 70)
     ∷ refused 8 26 (put 51 70 ∷ put 26 2500 ∷ [])  -- the lowest word
     ∷ []
@@ -146,7 +167,7 @@ sealed-mark : (b : List ℕ) (x : ℕ) → wordAt (set b 127 x) 0 ≡ wordAt b 0
 unfolding wordAt
 sealed-mark b x = rw (getD-set-other b 127 0 x 0 (λ e. omega arith), getD-set-other b 127 1 x 0 (λ e. omega arith))
 
-sealed-judged : (b : List ℕ) → length b ≡ 128 → wordAt b 0 ≡ 0x17A4 → judged (sealed b) ≡ faultsOf (sealed b)
+sealed-judged : (b : List ℕ) → length b ≡ 128 → wordAt b 0 ≡ 0x17A4 → judged (sealed b) ≡ faultsOf shortLayout (sealed b)
 sealed-judged b h m =
     let x = checkByte (take 127 b) in
     let size : length (set b 127 x) ≡ 128 = length-set b 127 x ∙ h in
@@ -157,14 +178,14 @@ sealed-judged b h m =
 abbrev fits : Case → Bool
 fits c =
     let b = changed workedPage (c .changes) in
-    eqb (length b) 128 && (eqb (wordAt b 0) 0x17A4 && agree (faultsOf (sealed b)) (c .verdict))
+    eqb (length b) 128 && (eqb (wordAt b 0) 0x17A4 && agree (faultsOf shortLayout (sealed b)) (c .verdict))
 
 abbrev allFit : List Case → Bool
 allFit [] = true
 allFit (c ∷ cs) = fits c && allFit cs
 
 cases-fit : allFit cases ≡ true
-unfolding cases faultsOf lowestFault lowestFrom met reservedMet rangeMet levelMet wordOfMet orderMet orderedAt wordAt within degreesFit
+unfolding cases faultsOf lowestWord meets kindOf kindMeets onRow levelMet orderMet listFrom wordAt within degreesFit
     levelFits levelOf signedOf rowAt table
 cases-fit = refl
 
@@ -175,11 +196,11 @@ AllJudged (c ∷ cs) = (judged (pageWith (c .changes)) ≡ c .verdict) × AllJud
 fit-judged : (c : Case) → fits c ≡ true → judged (pageWith (c .changes)) ≡ c .verdict
 fit-judged c e =
     let b = changed workedPage (c .changes) in
-    let rest = and-right (eqb (length b) 128) (eqb (wordAt b 0) 0x17A4 && agree (faultsOf (sealed b)) (c .verdict)) e in
-    let h = eqb-true (length b) 128 (and-left (eqb (length b) 128) (eqb (wordAt b 0) 0x17A4 && agree (faultsOf (sealed b)) (c .verdict)) e) in
-    let m = eqb-true (wordAt b 0) 0x17A4 (and-left (eqb (wordAt b 0) 0x17A4) (agree (faultsOf (sealed b)) (c .verdict)) rest) in
+    let rest = and-right (eqb (length b) 128) (eqb (wordAt b 0) 0x17A4 && agree (faultsOf shortLayout (sealed b)) (c .verdict)) e in
+    let h = eqb-true (length b) 128 (and-left (eqb (length b) 128) (eqb (wordAt b 0) 0x17A4 && agree (faultsOf shortLayout (sealed b)) (c .verdict)) e) in
+    let m = eqb-true (wordAt b 0) 0x17A4 (and-left (eqb (wordAt b 0) 0x17A4) (agree (faultsOf shortLayout (sealed b)) (c .verdict)) rest) in
     sealed-judged b h m
-    ∙ agree-same (faultsOf (sealed b)) (c .verdict) (and-right (eqb (wordAt b 0) 0x17A4) (agree (faultsOf (sealed b)) (c .verdict)) rest)
+    ∙ agree-same (faultsOf shortLayout (sealed b)) (c .verdict) (and-right (eqb (wordAt b 0) 0x17A4) (agree (faultsOf shortLayout (sealed b)) (c .verdict)) rest)
 
 all-judged : (cs : List Case) → allFit cs ≡ true → AllJudged cs
 all-judged [] e = tt

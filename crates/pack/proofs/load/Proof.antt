@@ -11,7 +11,7 @@ fresh-pack-requires : tie.Need-fresh-pack-requires
 fresh-pack-requires c κs = search needs
 
 returns : tie.Need-returns
-returns c = load-is _ _ _ (c .before .before .load .ensures) (c .fresh-pack .ensures)
+returns c = load-is _ _ _ (c .before .before .load .ensures .0) (c .fresh-pack .ensures)
 
 pub load-spec : {M : Type 1} → statement M
 load-spec = tie.close (tie.spec load-requires fresh-pack-requires returns)

@@ -1,29 +1,58 @@
--- `page::judge` meets its contract: each way out is one of the table's. Assumes nothing.
+-- `page_judge::judge` meets its contract: each way out is one of the table's. Assumes nothing.
 use native.Mathlib.Omega.{arith}
 use mathlib.Core.Path.{sym, _∙_}
 use borrow.Author.Tests.{eq-eqb, ne-eqb}
 use lib.ListN.{length-take}
-use Rattle.page_judge.specs.Walk.{judged-is, judged-answer}
+use Rattle.page_judge.specs.Walk.{judged-by, judged-answer}
 use borrow.Author.Needs.{needs}
 use Rattle.page_judge.proofs.judge.Statement.{statement}
 use Rattle.page_judge.proofs.judge.Tie as tie
+
+short-layout-requires : tie.Need-short-layout-requires
+short-layout-requires c κs = search needs
+
+check-at-requires : tie.Need-check-at-requires
+check-at-requires c κs = search needs
+
+add-if1 : tie.Need-add-if1
+add-if1 c = search needs
 
 refused-requires : tie.Need-refused-requires
 refused-requires c κs = search needs
 
 returns : tie.Need-returns
-returns c = judged-answer _ _ (rw (judged-is, ne-eqb _ _ (c .before .if1 .taken)) (c .refused .ensures))
+returns c =
+    let one = c .before .before in
+    judged-answer _ _
+    (rw (
+      judged-by _ _ (one .before .short-layout .ensures),
+      ← one .check-at .ensures,
+      ne-eqb _ _ (c .before .if1 .taken),
+    )
+    (c .refused .ensures))
 
-word-requires : tie.Need-word-requires
-word-requires c κs = search needs
+word-at-requires : tie.Need-word-at-requires
+word-at-requires c κs = search needs
+
+swapped-word-requires : tie.Need-swapped-word-requires
+swapped-word-requires c κs = search needs
 
 refused-requires-2 : tie.Need-refused-requires-2
 refused-requires-2 c κs = search needs
 
 returns-2 : tie.Need-returns-2
 returns-2 c =
+    let two = c .before .before in
+    let one = two .before .before .before in
     judged-answer _ _
-    (rw (judged-is, eq-eqb _ _ (c .before .before .before .if1 .left), ← c .before .before .word .ensures, eq-eqb _ _ (c .before .if2 .taken))
+    (rw (
+      judged-by _ _ (one .before .short-layout .ensures),
+      ← one .check-at .ensures,
+      eq-eqb _ _ (two .before .before .if1 .left),
+      ← two .before .word-at .ensures,
+      ← two .swapped-word .ensures,
+      eq-eqb _ _ (c .before .if2 .taken),
+    )
     (c .refused2 .ensures))
 
 refused-requires-3 : tie.Need-refused-requires-3
@@ -31,12 +60,17 @@ refused-requires-3 c κs = search needs
 
 returns-3 : tie.Need-returns-3
 returns-3 c =
+    let three = c .before .before in
+    let two = three .before .before in
+    let one = two .before .before .before in
     judged-answer _ _
     (rw (
-      judged-is,
-      eq-eqb _ _ (c .before .before .before .before .if1 .left),
-      ← c .before .before .before .word .ensures,
-      ne-eqb _ _ (c .before .before .if2 .left),
+      judged-by _ _ (one .before .short-layout .ensures),
+      ← one .check-at .ensures,
+      eq-eqb _ _ (two .before .before .if1 .left),
+      ← two .before .word-at .ensures,
+      ← two .swapped-word .ensures,
+      ne-eqb _ _ (three .before .if2 .left),
       ne-eqb _ _ (c .before .if3 .taken),
     )
     (c .refused3 .ensures))
@@ -55,42 +89,56 @@ refused-requires-4 c κs = search needs
 
 returns-4 : tie.Need-returns-4
 returns-4 c =
-    let d = c .before .before .before .before .before in
+    let four = c .before .before in
+    let three = four .before .before .before .before in
+    let two = three .before .before in
+    let one = two .before .before .before in
     judged-answer _ _
     (rw (
-      judged-is,
-      eq-eqb _ _ (d .before .before .before .if1 .left),
-      ← d .before .before .word .ensures,
-      ne-eqb _ _ (d .before .if2 .left),
-      eq-eqb _ _ (d .if3 .left),
-      ne-eqb _ _ (λ z. c .before .if4 .taken (z ∙ sym (c .before .before .check-byte .ensures))),
+      judged-by _ _ (one .before .short-layout .ensures),
+      ← one .check-at .ensures,
+      eq-eqb _ _ (two .before .before .if1 .left),
+      ← two .before .word-at .ensures,
+      ← two .swapped-word .ensures,
+      ne-eqb _ _ (three .before .if2 .left),
+      eq-eqb _ _ (four .before .before .before .if3 .left),
+      ne-eqb _ _ (λ z. c .before .if4 .taken (z ∙ sym (four .check-byte .ensures))),
     )
     (c .refused4 .ensures))
 
-faults-requires : tie.Need-faults-requires
-faults-requires c κs = search needs
+faults-of-requires : tie.Need-faults-of-requires
+faults-of-requires c κs = search needs
 
 returns-5 : tie.Need-returns-5
 returns-5 c =
-    let d = c .before .before .before .before .before in
+    let four = c .before .before in
+    let three = four .before .before .before .before in
+    let two = three .before .before in
+    let one = two .before .before .before in
     judged-answer _ _
     (rw (
-      judged-is,
-      eq-eqb _ _ (d .before .before .before .if1 .left),
-      ← d .before .before .word .ensures,
-      ne-eqb _ _ (d .before .if2 .left),
-      eq-eqb _ _ (d .if3 .left),
-      eq-eqb _ _ (c .before .if4 .left ∙ c .before .before .check-byte .ensures),
+      judged-by _ _ (one .before .short-layout .ensures),
+      ← one .check-at .ensures,
+      eq-eqb _ _ (two .before .before .if1 .left),
+      ← two .before .word-at .ensures,
+      ← two .swapped-word .ensures,
+      ne-eqb _ _ (three .before .if2 .left),
+      eq-eqb _ _ (four .before .before .before .if3 .left),
+      eq-eqb _ _ (c .before .if4 .left ∙ four .check-byte .ensures),
     )
-    (c .faults .ensures))
+    (c .faults-of .ensures))
 
 pub judge-spec : {M : Type 1} → statement M
 judge-spec =
     tie.close
     (tie.spec
+    short-layout-requires
+    check-at-requires
+    add-if1
     refused-requires
     returns
-    word-requires
+    word-at-requires
+    swapped-word-requires
     refused-requires-2
     returns-2
     refused-requires-3
@@ -100,5 +148,5 @@ judge-spec =
     check-byte-requires
     refused-requires-4
     returns-4
-    faults-requires
+    faults-of-requires
     returns-5)

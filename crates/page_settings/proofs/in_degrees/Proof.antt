@@ -1,4 +1,4 @@
--- `settings::in_degrees` meets its contract. Assumes nothing.
+-- `page_settings::in_degrees` meets its contract. Assumes nothing.
 use Rattle.page_settings.specs.Settings.{inDegrees}
 use borrow.Author.Needs.{needs}
 use Rattle.page_settings.proofs.in_degrees.Statement.{statement}

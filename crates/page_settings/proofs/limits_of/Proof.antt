@@ -1,7 +1,8 @@
--- `settings::limits_of` meets its contract. The loop's invariant: the first p entries are what the page says. Assumes nothing.
+-- `page_settings::limits_of` meets its contract. The loop's invariant: the first p entries are what the page says. Assumes nothing.
 use mathlib.Core.Path.{_≡_}
 use Prim.Native.Nat.{_≤_, _-_}
 use Rattle.laws.specs.Each.{eachTo}
+use Rattle.protections.specs.Table.{protections}
 use Rattle.page_settings.specs.Good.{limitsTo, limits-next, limits-are}
 use borrow.Author.Needs.{needs}
 use native.Mathlib.Omega.{arith}
@@ -9,10 +10,10 @@ use Rattle.page_settings.proofs.limits_of.Statement.{statement}
 use Rattle.page_settings.proofs.limits_of.Tie as tie
 
 abbrev Inv-loop : tie.InvT-loop
-Inv-loop page all₀ p₀ all p = (p ≤ 8) × (all ≡ limitsTo page p)
+Inv-loop page all₀ p₀ all p = (p ≤ protections) × (all ≡ limitsTo page p)
 
 abbrev μ-loop : tie.MeasureT-loop
-μ-loop page all₀ p₀ all p = 8 - p
+μ-loop page all₀ p₀ all p = protections - p
 
 no-limits-requires : tie.Need-no-limits-requires Inv-loop μ-loop
 no-limits-requires c κs = search needs
@@ -21,8 +22,11 @@ loop-holds : tie.Need-loop-holds Inv-loop μ-loop
 unfolding eachTo
 loop-holds c = (omega arith, rw (c .no-limits .ensures))
 
-limits-at-requires : tie.Need-limits-at-requires Inv-loop μ-loop
-limits-at-requires c κs = search needs
+cast-loop : tie.Need-cast-loop Inv-loop μ-loop
+cast-loop c = search needs
+
+limits-from-requires : tie.Need-limits-from-requires Inv-loop μ-loop
+limits-from-requires c κs = search needs
 
 cast-all : tie.Need-cast-all Inv-loop μ-loop
 cast-all c = search needs
@@ -40,10 +44,10 @@ loop-less : tie.Need-loop-less Inv-loop μ-loop
 loop-less c = omega arith
 
 loop-again : tie.Need-loop-again Inv-loop μ-loop
-loop-again c = (omega arith, limits-next _ _ _ _ (c .before .before .loop .inv .1) (c .limits-at .ensures))
+loop-again c = (omega arith, limits-next _ _ _ _ (c .before .before .loop .inv .1) (c .limits-from .ensures))
 
 returns : tie.Need-returns Inv-loop μ-loop
-returns c = let e : c .before .loop .p ≡ 8 = omega arith in rw (← limits-are) (rw e at (c .before .loop .inv .1))
+returns c = let e : c .before .loop .p ≡ protections = omega arith in rw (← limits-are) (rw e at (c .before .loop .inv .1))
 
 pub limits-of-spec : {M : Type 1} → statement M
 limits-of-spec =
@@ -53,7 +57,8 @@ limits-of-spec =
     μ-loop
     no-limits-requires
     loop-holds
-    limits-at-requires
+    cast-loop
+    limits-from-requires
     cast-all
     mul-all
     array-set-from-all

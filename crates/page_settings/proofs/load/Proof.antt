@@ -1,5 +1,6 @@
--- `settings::load` meets its contract. Assumes nothing.
+-- `page_settings::load` meets its contract. Assumes nothing.
 use mathlib.Core.Path.{sym, _∙_}
+use Rattle.page_settings.specs.Good.{loaded-answer}
 use Rattle.page_settings.specs.Settings.{loadedOf}
 use borrow.Author.Needs.{needs}
 use Rattle.page_settings.proofs.load.Statement.{statement}
@@ -22,11 +23,11 @@ no-settings-requires c κs = search needs
 
 returns : tie.Need-returns
 unfolding loadedOf
-returns c = rw (← c .before .before .before .judge .ensures .0, c .before .enum-told .given .1, c .settings-of .ensures)
+returns c = loaded-answer _ _ (rw (← c .before .before .before .judge .ensures .0, c .before .enum-told .given .1, c .settings-of .ensures))
 
 returns-2 : tie.Need-returns-2
 unfolding loadedOf
-returns-2 c = rw (← c .before .before .before .judge .ensures .0, c .before .enum-told2 .given .1, c .no-settings .ensures)
+returns-2 c = loaded-answer _ _ (rw (← c .before .before .before .judge .ensures .0, c .before .enum-told2 .given .1, c .no-settings .ensures))
 
 pub load-spec : {M : Type 1} → statement M
 load-spec =

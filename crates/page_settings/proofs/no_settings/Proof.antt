@@ -1,4 +1,4 @@
--- `settings::no_settings` meets its contract. Assumes nothing.
+-- `page_settings::no_settings` meets its contract. Assumes nothing.
 use Rattle.page_settings.specs.Settings.{noSettings}
 use borrow.Author.Needs.{needs}
 use Rattle.page_settings.proofs.no_settings.Statement.{statement}

@@ -1,6 +1,9 @@
--- `settings::sample_level` meets its contract. Assumes nothing.
+-- `page_settings::sample_level` meets its contract. Assumes nothing.
 use native.Mathlib.Omega.{arith}
-use mathlib.Core.Path.{_∙_}
+use mathlib.Core.Path.{_≡_, ap, _∙_}
+use lib.IntN.{ℤ}
+use Rattle.units.specs.declared.PageLevel.{PageLevel}
+use Rattle.units.specs.Levels.{level, pageLevel}
 use mir.Syntax.{w32}
 use mir.Facts.{toZ-ofZ}
 use Rattle.page_settings.proofs.Laws.{level-small, times-fits, plus-fits, plus-is}
@@ -9,29 +12,40 @@ use borrow.Author.Needs.{needs}
 use Rattle.page_settings.proofs.sample_level.Statement.{statement}
 use Rattle.page_settings.proofs.sample_level.Tie as tie
 
-level-requires : tie.Need-level-requires
-level-requires c κs = search needs
+level-of-requires : tie.Need-level-of-requires
+level-of-requires c κs = search needs
 
 in-degrees-requires : tie.Need-in-degrees-requires
 in-degrees-requires c κs = search needs
 
-mul-result : tie.Need-mul-result
-mul-result c = times-fits (c .before .before .level .result) (rw (c .before .before .level .ensures) (level-small _ _ (c .before .before .before .fits .x .fits)))
+-- The page's level as a number, and that it is small.
+number : (l : PageLevel) (z : ℤ) → l ≡ pageLevel z → l .0 ≡ z
+number l z e = ap (λ (x : PageLevel). x .0) e
 
-add-result : tie.Need-add-result
-add-result c = plus-fits (c .before .before .level .result) (rw (c .before .before .level .ensures) (level-small _ _ (c .before .before .before .fits .x .fits))) 2730 (omega arith)
+mul-tenths : tie.Need-mul-tenths
+mul-tenths c =
+    let l = c .before .before .before .before in
+    times-fits (l .level-of .result .0) (rw (l .level-of .ensures) (level-small _ _ (l .before .fits .x .fits)))
+
+add-tenths : tie.Need-add-tenths
+add-tenths c =
+    let l = c .before .before .before .before in
+    plus-fits (l .level-of .result .0) (rw (l .level-of .ensures) (level-small _ _ (l .before .fits .x .fits))) _ (omega arith)
 
 returns : tie.Need-returns
 unfolding sampleLevel
 returns c =
-    rw (← c .before .in-degrees .ensures, c .if1 .taken, ← c .before .before .level .ensures)
-    (plus-is (c .before .before .level .result) (rw (c .before .before .level .ensures) (level-small _ _ (c .before .before .before .fits .x .fits))) 2730 (omega arith))
+    let l = c .before .before .before .before in
+    rw (← c .before .before .before .in-degrees .ensures, c .before .before .if1 .taken, ← number _ _ (l .level-of .ensures))
+    (ap level (plus-is (l .level-of .result .0) (rw (l .level-of .ensures) (level-small _ _ (l .before .fits .x .fits))) _ (omega arith)))
 
 returns-2 : tie.Need-returns-2
 unfolding sampleLevel
 returns-2 c =
-    rw (← c .before .in-degrees .ensures, c .if1 .left) (toZ-ofZ {w = w32} (record { sfits = c .before .before .level .ok }) ∙ c .before .before .level .ensures)
+    let l = c .before .before .before in
+    rw (← c .before .before .in-degrees .ensures, c .before .if1 .left)
+    (ap level (toZ-ofZ {w = w32} (record { sfits = c .struct-told2 .given .0 .1 }) ∙ number _ _ (l .level-of .ensures)))
 
 pub sample-level-spec : {M : Type 1} → statement M
 sample-level-spec =
-    tie.close (tie.spec level-requires in-degrees-requires mul-result add-result returns returns-2)
+    tie.close (tie.spec level-of-requires in-degrees-requires mul-tenths add-tenths returns returns-2)

@@ -1,4 +1,4 @@
--- `settings::settings_of` meets its contract. Assumes nothing.
+-- `page_settings::settings_of` meets its contract. Assumes nothing.
 use Rattle.page_settings.specs.Settings.{settingsOf}
 use borrow.Author.Needs.{needs}
 use Rattle.page_settings.proofs.settings_of.Statement.{statement}

@@ -1,4 +1,4 @@
--- `ranges::byte_at` meets its contract. Assumes nothing.
+-- `page_words::byte_at` meets its contract. Assumes nothing.
 use mathlib.Core.Path.{sym}
 use lib.ListN.{List·getD-eq-default}
 use borrow.Author.Needs.{needs}

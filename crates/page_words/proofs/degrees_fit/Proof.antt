@@ -1,4 +1,4 @@
--- `ranges::degrees_fit` meets its contract. Assumes nothing.
+-- `page_words::degrees_fit` meets its contract. Assumes nothing.
 use mir.Facts.{toZ-ofZ}
 use Rattle.page_words.specs.Ranges.{degreesFit}
 use Rattle.page_words.proofs.degrees_fit.Statement.{statement}

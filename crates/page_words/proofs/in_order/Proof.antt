@@ -1,4 +1,5 @@
--- `ranges::in_order` meets its contract. Assumes nothing.
+-- `page_words::in_order` meets its contract. Assumes nothing.
+use mir.Syntax.{w32}
 use mir.Facts.{toZ-ofZ}
 use borrow.Author.Needs.{needs}
 use Rattle.page_words.proofs.in_order.Statement.{statement}
@@ -11,10 +12,20 @@ enum-told-2 : tie.Need-enum-told-2
 enum-told-2 c = search needs
 
 returns : tie.Need-returns
-returns c = rw (toZ-ofZ (c .before .before .fits .trip), toZ-ofZ (c .before .before .fits .release), c .enum-told .given .1)
+returns c =
+    rw (
+      toZ-ofZ {w = w32} (record { sfits = c .before .before .struct-told .given .0 .1 }),
+      toZ-ofZ {w = w32} (record { sfits = c .struct-told2 .given .0 .1 }),
+      c .before .before .before .before .enum-told .given .1,
+    )
 
 returns-2 : tie.Need-returns-2
-returns-2 c = rw (toZ-ofZ (c .before .before .fits .trip), toZ-ofZ (c .before .before .fits .release), c .enum-told2 .given .1)
+returns-2 c =
+    rw (
+      toZ-ofZ {w = w32} (record { sfits = c .before .before .struct-told3 .given .0 .1 }),
+      toZ-ofZ {w = w32} (record { sfits = c .struct-told4 .given .0 .1 }),
+      c .before .before .before .before .enum-told2 .given .1,
+    )
 
 pub in-order-spec : {M : Type 1} → statement M
 in-order-spec = tie.close (tie.spec enum-told enum-told-2 returns returns-2)

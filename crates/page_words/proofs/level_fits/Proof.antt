@@ -1,4 +1,4 @@
--- `ranges::level_fits` meets its contract. Assumes nothing.
+-- `page_words::level_fits` meets its contract. Assumes nothing.
 use mathlib.Core.Path.{ap, _∙_}
 use mir.Syntax.{w16}
 use mir.Facts.{toZ-ofZ}
@@ -10,14 +10,14 @@ use Rattle.page_words.proofs.level_fits.Tie as tie
 enum-told : tie.Need-enum-told
 enum-told c = search needs
 
-inside-requires : tie.Need-inside-requires
-inside-requires c κs = search needs
+within-requires : tie.Need-within-requires
+within-requires c κs = search needs
 
 enum-told-2 : tie.Need-enum-told-2
 enum-told-2 c = search needs
 
-inside-requires-2 : tie.Need-inside-requires-2
-inside-requires-2 c κs = search needs
+within-requires-2 : tie.Need-within-requires-2
+within-requires-2 c κs = search needs
 
 enum-told-3 : tie.Need-enum-told-3
 enum-told-3 c = search needs
@@ -42,11 +42,11 @@ degrees-fit-requires-2 c κs = search needs
 
 returns : tie.Need-returns
 unfolding levelFits
-returns c = rw (c .before .enum-told .given .1) (c .inside .ensures)
+returns c = rw (c .before .enum-told .given .1) (c .within .ensures)
 
 returns-2 : tie.Need-returns-2
 unfolding levelFits
-returns-2 c = rw (c .before .enum-told2 .given .1) (c .inside2 .ensures)
+returns-2 c = rw (c .before .enum-told2 .given .1) (c .within2 .ensures)
 
 returns-3 : tie.Need-returns-3
 unfolding levelFits
@@ -65,9 +65,9 @@ level-fits-spec =
     tie.close
     (tie.spec
     enum-told
-    inside-requires
+    within-requires
     enum-told-2
-    inside-requires-2
+    within-requires-2
     enum-told-3
     enum-told-4
     signed-of-requires

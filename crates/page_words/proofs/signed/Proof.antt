@@ -1,4 +1,4 @@
--- `ranges::signed` meets its contract. Assumes nothing.
+-- `page_words::signed` meets its contract. Assumes nothing.
 use mathlib.Core.Path.{_∙_}
 use Rattle.page_words.proofs.Laws.{widen-fits, widen-is}
 use borrow.Author.Needs.{needs}

@@ -1,6 +1,4 @@
 -- `guard::all::step_at` meets its contract. Assumes nothing.
-use mir.Syntax.{w32}
-use mir.Facts.{toZ-ofZ}
 use Rattle.guard.specs.Steps.{stepWith}
 use borrow.Author.Needs.{needs}
 use Rattle.guard.proofs.all.step_at.Statement.{statement}
@@ -17,7 +15,7 @@ step-one-requires c κs = search needs
 
 returns : tie.Need-returns
 unfolding stepWith
-returns c = rw (c .step-one .ensures, toZ-ofZ {w = w32} (record { sfits = c .before .measured .ok }), c .before .measured .ensures, c .before .before .row-of .ensures)
+returns c = rw (c .step-one .ensures, c .before .measured .ensures, c .before .before .row-of .ensures)
 
 pub step-at-spec : {M : Type 1} → statement M
 step-at-spec = tie.close (tie.spec row-of-requires measured-requires step-one-requires returns)

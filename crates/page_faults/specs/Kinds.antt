@@ -1,0 +1,96 @@
+-- What each word of a settings page is: document 01's table of words, said once, for a page of any layout.
+-- Assumes nothing.
+use mathlib.Core.Path.{_≡_, refl}
+use mathlib.Core.Bool.{cond}
+use mathlib.Core.List.{List, [], _∷_}
+use Prim.Native.Nat.{ℕ, _+_, _-_, _*_, _/_, _%_, _<_, _≤_}
+use native.Mathlib.Omega.{arith}
+use borrow.Author.Tests.{lt-ltb, le-ltb}
+use lib.Dec.{ltb, eqb}
+use lib.ListN.{getD, List·getD-eq-default}
+use Rattle.units.specs.declared.ProtectionNo.{ProtectionNo}
+use Rattle.protections.specs.Limits.{leastRun, mostRun, mostMask}
+use Rattle.page_faults.specs.declared.Layout.{Layout}
+use Rattle.page_faults.specs.declared.Kind.{Kind}
+use Rattle.page_faults.specs.declared.Kind.the-variants.{Mark, Setting, Reserved, Trip, Release, Limit, Last, Outside}
+
+-- ---- layouts
+
+-- The page of document 01: mark 0x17A4, eight protections, words 0 to 63.
+abbrev pub shortLayout : Layout
+shortLayout = record { mark = 0x17A4; protections = 8; last = 63 }
+
+-- A word has two bytes. The high byte of the last word is the check byte of all bytes before it, and the last byte of the page.
+abbrev pub checkAt : Layout → ℕ
+checkAt l = 2 * l .last + 1
+
+abbrev pub bytesOf : Layout → ℕ
+bytesOf l = checkAt l + 1
+
+-- ---- the table of words
+
+-- Words 0 to 8; words 9 to 15 are reserved.
+abbrev fronts : List Kind
+fronts =
+    Mark
+    ∷ Setting 2 10  -- cells n
+    ∷ Setting 1 5  -- most cells bled at once, K
+    ∷ Setting 1 240  -- run limit R
+    ∷ Setting 0 6000  -- balance floor
+    ∷ Setting 1 6000  -- balance difference
+    ∷ Setting 1 32767  -- charge detection current
+    ∷ Setting 0 6000  -- charging voltage per cell
+    ∷ Setting 0 32767  -- charging current
+    ∷ []
+
+abbrev pub frontKind : ℕ → Kind
+frontKind i = getD fronts i Reserved
+
+-- Protection p has words 16 + 5p to 20 + 5p: trip, release, N, M, switch mask.
+abbrev pub tripWord : ℕ → ℕ
+tripWord p = 16 + 5 * p
+
+abbrev parts : ProtectionNo → List Kind
+parts p = Trip p ∷ Release p ∷ Limit leastRun mostRun ∷ Limit leastRun mostRun ∷ []
+
+abbrev pub partKind : ProtectionNo → ℕ → Kind
+partKind p f = getD (parts p) f (Limit 0 mostMask)
+
+-- What word i is. Behind the protections all words are reserved but the last, and past the last there is none.
+unfoldable pub kindOf : Layout → ℕ → Kind
+kindOf l i =
+    cond (ltb i 16) (frontKind i)
+    (cond (ltb i (tripWord (l .protections))) (partKind (record { 0 = (i - 16) / 5 }) ((i - 16) % 5))
+    (cond (ltb i (l .last)) Reserved
+    (cond (eqb i (l .last)) Last Outside)))
+
+-- A value in the range of a word that has one by its kind.
+abbrev pub Inside : Kind → ℕ → Type 0
+Inside Mark x = Unit {0}
+Inside (Setting low high) x = (low ≤ x) × (x ≤ high)
+Inside Reserved x = Unit {0}
+Inside (Trip p) x = Unit {0}
+Inside (Release p) x = Unit {0}
+Inside (Limit low high) x = (low ≤ x) × (x ≤ high)
+Inside Last x = Unit {0}
+Inside Outside x = Unit {0}
+
+-- ---- where each kind stands
+
+pub front-past : (i : ℕ) → 9 ≤ i → frontKind i ≡ Reserved
+front-past i h = List·getD-eq-default fronts Reserved h
+
+pub part-past : (p : ProtectionNo) (f : ℕ) → 4 ≤ f → partKind p f ≡ Limit 0 mostMask
+part-past p f h = List·getD-eq-default (parts p) (Limit 0 mostMask) h
+
+pub kind-front : (l : Layout) (i : ℕ) → i < 16 → kindOf l i ≡ frontKind i
+unfolding kindOf
+kind-front l i h = rw (lt-ltb i 16 h)
+
+-- Word f of protection p.
+pub kind-part : (l : Layout) (p f : ℕ) → p < l .protections → f < 5 → kindOf l (tripWord p + f) ≡ partKind (record { 0 = p }) f
+unfolding kindOf
+kind-part l p f hp hf =
+    let q : (tripWord p + f - 16) / 5 ≡ p = omega arith in
+    let r : (tripWord p + f - 16) % 5 ≡ f = omega arith in
+    rw (le-ltb (tripWord p + f) 16 (omega arith), lt-ltb (tripWord p + f) (tripWord (l .protections)) (omega arith), q, r)
