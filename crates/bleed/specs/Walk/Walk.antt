@@ -24,6 +24,10 @@ abbrev pub hasNeighbour : ℕ → List ℕ → Bool
 hasNeighbour k [] = false
 hasNeighbour k (d ∷ l) = neighbours k d || hasNeighbour k l
 
+neighbours-found :
+    hasNeighbour 2 (5 ∷ 1 ∷ []) ∷ hasNeighbour 2 (3 ∷ 5 ∷ []) ∷ hasNeighbour 2 (5 ∷ 2 ∷ []) ∷ hasNeighbour 2 (5 ∷ 4 ∷ []) ∷ [] ≡ true ∷ true ∷ false ∷ false ∷ []
+neighbours-found = refl
+
 -- The cells k, k + 1, and so on, j of them.
 abbrev pub upFrom : ℕ → ℕ → List ℕ
 upFrom k zero = []
