@@ -7,9 +7,11 @@ use Prim.Native.Nat.{ℕ}
 use lib.Dec.{eqb}
 use lib.ListN.{replicate}
 use Rattle.laws.specs.Numbered.{countFrom}
-use Rattle.page_words.specs.Ranges.{wordAt}
+use Rattle.units.specs.Signed.{signedOf}
+use Rattle.protections.specs.Table.{rowAt, table}
+use Rattle.page_words.specs.Ranges.{wordAt, levelOf}
 use Rattle.page_faults.specs.Kinds.{shortLayout, checkAt, bytesOf, tripWord, kindOf}
-use Rattle.page_faults.specs.Met.{onRow, kindMeets, meets}
+use Rattle.page_faults.specs.Met.{orderMet, onRow, kindMeets, meets}
 use Rattle.page_faults.specs.declared.Kind.{Kind}
 use Rattle.page_faults.specs.declared.Kind.the-variants.{Mark, Setting, Reserved, Trip, Release, Limit, Last, Outside}
 
@@ -72,3 +74,18 @@ past-the-last
     ≡ replicate 20 true
 unfolding meets kindOf kindMeets onRow wordAt
 past-the-last = refl
+
+-- Cells are compared as they stand, currents and temperatures as signed numbers: 0xFFFF is 65535 mV, but -1 mA and -1 degree.
+in-order
+    : (orderMet 0 0xFFFF 5 ∷ orderMet 1 5 0xFFFF ∷ orderMet 2 5 0xFFFF ∷ orderMet 3 0xFFFF 5 ∷ orderMet 4 0xFFFF 5 ∷ orderMet 5 5 0xFFFF
+    ∷ orderMet 6 5 0xFFFF ∷ orderMet 7 5 0xFFFF ∷ [])
+    ≡ replicate 8 true
+unfolding orderMet levelOf signedOf rowAt table
+in-order = refl
+
+out-of-order
+    : (orderMet 0 5 0xFFFF ∷ orderMet 1 0xFFFF 5 ∷ orderMet 2 0xFFFF 5 ∷ orderMet 3 5 0xFFFF ∷ orderMet 4 5 0xFFFF ∷ orderMet 5 0xFFFF 5
+    ∷ orderMet 6 0xFFFF 5 ∷ orderMet 7 0xFFFF 5 ∷ [])
+    ≡ replicate 8 false
+unfolding orderMet levelOf signedOf rowAt table
+out-of-order = refl
