@@ -17,7 +17,8 @@ use Rattle.refusals.specs.declared.Verdict.{Verdict}
 use Rattle.refusals.specs.declared.Verdict.the-variants.{Accepted, Refused}
 use Rattle.sample.specs.declared.Sample.{Sample}
 use Rattle.sample.specs.declared.Extremes.{Extremes}
-use Rattle.pack_refusals.specs.Samples.{sampleVerdict, commandVerdict, trimmed, sample-exact}
+use Rattle.pack_refusals.specs.Samples.{sampleVerdict, commandVerdict, trimmed}
+use Rattle.pack_refusals.specs.SampleLaws.{sample-exact}
 use Rattle.pack.specs.Events.{Event, offer, command, accepts, withEvent, pastOf}
 use Rattle.sample.specs.Cells.{noVolts, lowest, lowest-among, extremesOf, extremes-are}
 use Rattle.page_settings.specs.declared.Settings.{Settings}

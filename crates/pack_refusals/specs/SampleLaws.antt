@@ -3,12 +3,12 @@
 use mathlib.Core.Path.{_≡_, ap, _∙_}
 use mathlib.Core.Bool.{Bool, true, false, _&&_}
 use mathlib.Core.List.{List}
-use Prim.Native.Nat.{ℕ, _+_, _≤_, _<_}
+use Prim.Native.Nat.{ℕ, zero, suc, _+_, _≤_, _<_}
 use native.Mathlib.Numerals.{add-one}
 use native.Mathlib.Omega.{arith}
-use lib.Dec.{leb}
+use lib.Dec.{leb, eqb}
 use lib.ListN.{getD}
-use borrow.Author.Tests.{le-leb, lt-leb, eq-eqb, ne-eqb, leb-true, leb-false}
+use borrow.Author.Tests.{le-leb, lt-leb, eq-eqb, ne-eqb, leb-true, leb-false, eqb-true}
 use Rattle.laws.specs.Tests.{by-test}
 use Rattle.units.specs.declared.MilliVolts.{MilliVolts}
 use Rattle.refusals.specs.Answers.{answerOf}
@@ -71,3 +71,15 @@ module _ (n : ℕ) (s : Sample) where
   pub sample-answer : (v : Verdict) → v ≡ sampleVerdict n s → (v ≡ sampleVerdict n s) × (answerOf v ≡ given (sampleRefusals n s))
   unfolding sampleVerdict
   sample-answer v e = (e, ap answerOf e ∙ first-map answerOf Refused Accepted (sampleRefusals n s))
+
+-- An accepted sample has exactly n cells.
+pub sample-exact : (n : ℕ) (s : Sample) → sampleVerdict n s ≡ Accepted → s .count ≡ n
+unfolding sampleVerdict sampleRefusals
+sample-exact zero s e = absurd (let z : _≡_ {A = ℕ} 0 1 = cc in omega arith)
+sample-exact (suc m) s e =
+    by-test (eqb (s .count) (suc m))
+    (λ t. eqb-true (s .count) (suc m) t)
+    (λ t. absurd (refused-not (rw t at e)))
+  where
+    refused-not : Refused 9 0 ≡ Accepted → ⊥
+    refused-not e = let z : _≡_ {A = ℕ} 0 1 = cc in omega arith

@@ -5,9 +5,7 @@ use mathlib.Core.Bool.{Bool, true, false, cond, _&&_}
 use mathlib.Core.List.{List, [], _∷_}
 use Prim.Native.Nat.{ℕ, zero, suc, _<_}
 use lib.Dec.{leb, ltb, eqb}
-use borrow.Author.Tests.{eqb-true}
 use native.Mathlib.Omega.{arith}
-use Rattle.laws.specs.Tests.{by-test}
 use lib.ListN.{getD}
 use Rattle.units.specs.declared.MilliVolts.{MilliVolts}
 use Rattle.laws.specs.Each.{eachTo}
@@ -76,21 +74,9 @@ trimmed s =
       t2 = s .t2;
     }
 
--- ---- what an accepted sample is
+-- ---- what row 9 says of a pack with a page
 
--- With a page the row is document 01's, word for word;
+-- With a page the row is document 01's, word for word.
 pub exact-count : (n count : ℕ) → 0 < n → exactCount n count ≡ eqb count n
 exact-count zero count h = absurd (omega arith)
 exact-count (suc m) count h = refl
-
--- and an accepted sample has exactly n cells.
-pub sample-exact : (n : ℕ) (s : Sample) → sampleVerdict n s ≡ Accepted → s .count ≡ n
-unfolding sampleVerdict sampleRefusals
-sample-exact zero s e = absurd (let z : _≡_ {A = ℕ} 0 1 = cc in omega arith)
-sample-exact (suc m) s e =
-    by-test (eqb (s .count) (suc m))
-    (λ t. eqb-true (s .count) (suc m) t)
-    (λ t. absurd (refused-not (rw t at e)))
-  where
-    refused-not : Refused 9 0 ≡ Accepted → ⊥
-    refused-not e = let z : _≡_ {A = ℕ} 0 1 = cc in omega arith

@@ -18,7 +18,8 @@ use sample::extremes_of;
 use units::CellNo;
 
 // What bleeding keeps: of the latest accepted sample its start cell, who rested and who was bled; for the next one the start
-// cell, and at how many samples in a row up to now each cell was bled. Bit k - 1 of a word stands for cell k.
+// cell, and at how many samples in a row up to now each cell was bled. Bit k - 1 of a word stands for cell k. No word and no line shows
+// `begun` and `rested`; `begun-is` and `rested-is` (specs/Steps) say what they are.
 pub struct Balance {
     pub begun: CellNo,
     pub rested: u16,
