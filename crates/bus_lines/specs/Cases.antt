@@ -5,8 +5,11 @@ use mathlib.Core.List.{[], _∷_}
 use Rattle.text_fields.specs.Quoted.{quoted}
 use Rattle.text_fields.specs.Fields.{lineOf}
 use Rattle.text_fields.specs.Decimal.{decimal}
+use Rattle.pack_state.specs.declared.Pack.{Pack}
+use Rattle.bus_table.specs.Table.{rowOf}
+use Rattle.bus.specs.Replies.{notInTable, replyRefusals, repliedFor, repliedTo}
 use Rattle.bus.specs.declared.answer.Replied.the-variants.{Sent, Refused}
-use Rattle.bus_lines.specs.Lines.{hexDigit, hexByte, hexBytes, lineFor}
+use Rattle.bus_lines.specs.Lines.{hexDigit, hexByte, hexBytes, lineFor, wordLine, wordLines}
 
 -- 0x00, 0x09, 0x4a and 0xff
 pub bytes : hexBytes (0 ∷ 9 ∷ 0x4a ∷ 255 ∷ []) ≡ quoted "00094aff"
@@ -19,3 +22,8 @@ pub answers : (lineFor 0x41 Sent (0x15 ∷ 0 ∷ 0x6d ∷ []) ≡ quoted "41\t15
     × (lineFor 5 (Refused 12) (0 ∷ 0 ∷ 0 ∷ []) ≡ quoted "05\trefused\t12\n")
 unfolding lineFor lineOf hexBytes hexByte hexDigit decimal
 answers = (refl, refl, refl)
+
+-- the first two lines of any pack, in this order
+pub first-lines : (p : Pack) → wordLines p 2 ≡ quoted "00\trefused\t12\n01\trefused\t12\n"
+unfolding wordLines wordLine lineFor lineOf hexByte hexDigit decimal repliedTo repliedFor replyRefusals notInTable rowOf
+first-lines p = refl

@@ -6,19 +6,23 @@ use mathlib.Core.List.{List, [], _∷_, _++_}
 use native.Mathlib.Numerals.{add-one}
 use native.Mathlib.Omega.{arith}
 use lib.Dec.{leb, ltb}
-use lib.ListN.{length, getD, set, take, drop, length-set, length-take, length-drop, length-append, take-append-drop}
+use lib.ListN.{length, getD, set, take, drop, length-set, length-take, length-drop, take-append-drop}
 use lib.Seq.{take-suc, take-suc-set, drop-set-lt, drop-drop, getD-drop, length-take-le, take-take, take-all, take-add, take-at, drop-at}
-use borrow.Author.Tests.{le-leb, lt-leb, leb-true, ltb-true, ltb-false}
+use borrow.Author.Tests.{le-leb, lt-leb, ltb-true, ltb-false}
 use Rattle.laws.specs.Tests.{by-test}
+
+-- How much of a line that did not end is enough: a line over 128 bytes is as good as its first 129.
+abbrev pub enough : ℕ
+enough = 129
 
 -- the bytes that are carried on: all while lines wait in them, and else the first 129, since a line over 128 bytes is as good as its first 129
 abbrev pub keptOf : Bool → List ℕ → List ℕ
-keptOf true x = take 129 x
+keptOf true x = take enough x
 keptOf false x = x
 
 -- how many they are
 unfoldable pub carriedOf : Bool → ℕ → ℕ
-carriedOf done n = cond done (cond (ltb 129 n) 129 n) n
+carriedOf done n = cond done (cond (ltb enough n) enough n) n
 
 -- the buffer d with count of its bytes moved from from on to the front; where it has not so many, it stays
 unfoldable pub movedDown : List ℕ → ℕ → ℕ → List ℕ
@@ -28,22 +32,22 @@ pub carried-few : (done : Bool) (n : ℕ) → carriedOf done n ≤ n
 unfolding carriedOf
 carried-few false n = omega arith
 carried-few true n =
-    by-test (ltb 129 n) (λ t. rw t (let k = ltb-true 129 n t in omega arith)) (λ t. rw t (omega arith))
+    by-test (ltb enough n) (λ t. rw t (let k = ltb-true enough n t in omega arith)) (λ t. rw t (omega arith))
 
 -- where no newline is left, at most 129 bytes are carried on
 pub carried-little : (done : Bool) (n : ℕ) → done ≡ true → carriedOf done n ≤ 129
 unfolding carriedOf
 carried-little false n e = absurd (true≢false (sym e))
 carried-little true n e =
-    by-test (ltb 129 n) (λ t. rw t (omega arith)) (λ t. rw t (let k = ltb-false 129 n t in omega arith))
+    by-test (ltb enough n) (λ t. rw t (omega arith)) (λ t. rw t (let k = ltb-false enough n t in omega arith))
 
 kept-take : (done : Bool) (n : ℕ) (x : List ℕ) → take (carriedOf done n) x ≡ keptOf done (take n x)
 unfolding carriedOf
 kept-take false n x = refl
 kept-take true n x =
-    by-test (ltb 129 n)
-    (λ t. rw t (sym (take-take 129 n x (let k = ltb-true 129 n t in omega arith))))
-    (λ t. rw t (sym (take-all 129 (take n x) (let k = ltb-false 129 n t in let z = length-take n x in omega arith))))
+    by-test (ltb enough n)
+    (λ t. rw t (sym (take-take enough n x (let k = ltb-true enough n t in omega arith))))
+    (λ t. rw t (sym (take-all enough (take n x) (let k = ltb-false enough n t in let z = length-take n x in omega arith))))
 
 drop-take : (from n : ℕ) (l : List ℕ) → from ≤ n → n ≤ length l → drop from (take n l) ≡ take (n - from) (drop from l)
 drop-take from n l a b =
@@ -90,18 +94,6 @@ moved-end d from count e h m =
 pub moved-not : (d : List ℕ) (from count : ℕ) → length d < from + count → d ≡ movedDown d from count
 unfolding movedDown
 moved-not d from count h = rw (lt-leb (from + count) (length d) h)
-
-pub moved-length : (d : List ℕ) (from count : ℕ) → length (movedDown d from count) ≡ length d
-unfolding movedDown
-moved-length d from count =
-    by-test (leb (from + count) (length d))
-    (λ t. rw t (moved-size (leb-true (from + count) (length d) t)))
-    (λ t. rw t)
-  where
-    moved-size : from + count ≤ length d → length (take count (drop from d) ++ drop count d) ≡ length d
-    moved-size h =
-        length-append (take count (drop from d)) (drop count d)
-        ∙ omega (arith, length-take-le count (drop from d) (rw length-drop (omega arith)), length-drop count d)
 
 -- the front of the buffer, once the rest of the waiting bytes was moved there, is what had to be kept of them
 pub moved-kept : (buf : List ℕ) (have used : ℕ) (done : Bool) → have ≤ length buf → used ≤ have

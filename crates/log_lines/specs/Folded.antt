@@ -11,7 +11,7 @@ use lib.Seq.{length-take-le, take-all}
 use borrow.Author.Tests.{ltb-true, ltb-false}
 use Rattle.laws.specs.Tests.{by-test}
 use Rattle.log_lines.specs.Lines.{linesOf, plain}
-use Rattle.log_lines.specs.Carrying.{keptOf}
+use Rattle.log_lines.specs.Carrying.{enough, keptOf}
 use Rattle.log_lines.specs.Walking.{onto, lines-onto, lines-line, plain-take}
 
 -- next: the state behind a line
@@ -75,16 +75,16 @@ module _ {S : Type 0} (next : S → List ℕ → S) where
         ap (λ (t : S). behindLines t fs) (alike s (b ∷ l ++ f) (c ∷ m ++ f) h' k')
 
     -- The cut: of a line that did not end yet, 129 bytes are enough to hold.
-    pub cut-right : (s : S) (l more : List ℕ) → plain l ≡ true → behindLog s (l ++ more) ≡ behindLog s (take 129 l ++ more)
+    pub cut-right : (s : S) (l more : List ℕ) → plain l ≡ true → behindLog s (l ++ more) ≡ behindLog s (take enough l ++ more)
     unfolding behindLog
     cut-right s l more p =
         by-test (ltb 128 (length l))
         (λ t.
         let h = ltb-true 128 (length l) t in
-        let e = length-take-le 129 l h in
-        ap (behindLines s) (lines-onto l more p) ∙ long-alike s l (take 129 l) (linesOf more) h (omega arith)
-        ∙ sym (ap (behindLines s) (lines-onto (take 129 l) more (plain-take 129 l p))))
-        (λ t. let h = ltb-false 128 (length l) t in ap (λ (m : List ℕ). behindLog s (m ++ more)) (sym (take-all 129 l (omega arith))))
+        let e = length-take-le enough l h in
+        ap (behindLines s) (lines-onto l more p) ∙ long-alike s l (take enough l) (linesOf more) h (omega arith)
+        ∙ sym (ap (behindLines s) (lines-onto (take enough l) more (plain-take enough l p))))
+        (λ t. let h = ltb-false 128 (length l) t in ap (λ (m : List ℕ). behindLog s (m ++ more)) (sym (take-all enough l (omega arith))))
 
     -- What is carried on.
     pub passed-kept : (s₀ : S) (read : List ℕ) (s : S) (held : List ℕ) (done : Bool) → done ≡ plain held

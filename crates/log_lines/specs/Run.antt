@@ -12,7 +12,7 @@ use borrow.Author.Tests.{le-ltb, eqb-true, ne-eqb}
 use Rattle.laws.specs.Tests.{by-test}
 use Rattle.text_fields.specs.Finding.{lacks}
 use Rattle.log_lines.specs.Lines.{linesOf, plain}
-use Rattle.log_lines.specs.Carrying.{keptOf, carriedOf, movedDown, moved-kept, carried-few}
+use Rattle.log_lines.specs.Carrying.{enough, keptOf, carriedOf, movedDown, moved-kept, carried-few}
 use Rattle.log_lines.specs.Walking.{lines-line, lines-rest, plain-take, whole, whole-none, whole-line}
 use Rattle.log_lines.specs.Folded.{behindLines, behindLog}
 use Rattle.log_lines.specs.Output.{answers, output, Alike, Sofar, sofar-start, sofar-read, sofar-then, sofar-end, sofar-kept}
@@ -108,7 +108,7 @@ module _ {S : Type 0} (next : S → List ℕ → S) (answer : S → List ℕ →
       fed-plain t = ap plain fed-kept ∙ by-done done (drop used buf) (f .chunk .ended) t
         where
           by-done : (d : Bool) (x : List ℕ) → d ≡ plain x → d ≡ true → plain (keptOf d x) ≡ true
-          by-done true x e t = plain-take 129 x (sym e)
+          by-done true x e t = plain-take enough x (sym e)
           by-done false x e t = absurd (true≢false (sym t))
 
   module _ (alike : Alike next answer) where

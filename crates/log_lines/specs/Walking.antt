@@ -160,6 +160,3 @@ module _ (text : List ℕ) (from : ℕ) where
 
     pub ended-plain : plain (take (end - from) left) ≡ true
     ended-plain = ap plain ended-line ∙ before-lacks 10 left
-
-    pub lines-next : linesOf left ≡ take (end - from) left ∷ linesOf (drop next text)
-    lines-next = ap linesOf ended-splits ∙ lines-line (take (end - from) left) (drop next text) ended-plain

@@ -22,8 +22,8 @@ pub found : (fieldAt (quoted "S\t12") 0 ≡ quoted "S") × (fieldAt (quoted "S\t
 unfolding before
 found = (refl, refl, refl, refl)
 
--- 0, 10, 65535 and 1000000 as text
-pub texts : (decimal 0 ≡ quoted "0") × (decimal 10 ≡ quoted "10") × (decimal 65535 ≡ quoted "65535")
+-- 0, 10, 9, 99, 65535 and 1000000 as text
+pub texts : (decimal 0 ≡ quoted "0") × (decimal 10 ≡ quoted "10") × (decimal 9 ≡ quoted "9") × (decimal 99 ≡ quoted "99") × (decimal 65535 ≡ quoted "65535")
     × (decimal 1000000 ≡ quoted "1000000")
 unfolding decimal
-texts = (refl, refl, refl, refl)
+texts = (refl, refl, refl, refl, refl, refl)

@@ -17,7 +17,6 @@ use Rattle.text_numbers.specs.Numbers.{digitsTo, numberTo, numberOf, abo
 use Rattle.text_fields.specs.Spelling.{decimal-digit, decimal-tens, by-digits, decimal-some, decimal-first, decimal-lead, length-tens}
 use Rattle.text_numbers.specs.declared.Number.{Number}
 use Rattle.text_numbers.specs.declared.Number.the-variants.{Value, Malformed}
-use Rattle.text_numbers.specs.declared.Signed.{Signed}
 use Rattle.text_numbers.specs.declared.Signed.the-variants as signed
 
 -- a test that would refuse, where a number is answered: it was false
@@ -206,14 +205,6 @@ unfolding signedOf signedText
 signed-read (pos v) r =
     unsigned (decimal v) (decimal-some v) (decimal-first v) ∙ ap aboveOf (number-read 32767 v (leb-true v 32767 (r .1)))
 signed-read (negsuc v) r = ap belowOf (number-read 32768 (suc v) (let k = leb-true v 32767 (r .0) in omega arith))
-
--- and no other field is a signed number
-pub signed-malformed : (f : List ℕ) → ((z : ℤ) → InRange z → f ≡ signedText z → ⊥) → signedOf f ≡ signed.Malformed
-signed-malformed f h = none (signedOf f) refl
-  where
-    none : (n : Signed) → n ≡ signedOf f → n ≡ signed.Malformed
-    none signed.Malformed e = refl
-    none (signed.Value z) e = let t = signed-text f z (sym e) in absurd (h z (t .1) (t .0))
 
 -- a field is read as z exactly if it is the text of z and z is -32768..32767
 pub signed-exactly : (f : List ℕ) (z : ℤ) → (signedOf f ≡ signed.Value z → (f ≡ signedText z) × InRange z)

@@ -1,9 +1,11 @@
 -- Worked cases, computed: what a reader can check by eye.
 use mathlib.Core.Path.{_≡_, refl}
-use mathlib.Core.List.{[], _∷_}
+use mathlib.Core.Bool.{true, false}
+use mathlib.Core.List.{[]}
 use Rattle.text_fields.specs.Quoted.{quoted}
 use lib.IntN.{pos, negsuc}
 use Rattle.text_fields.specs.Decimal.{decimal}
+use Rattle.text_numbers.specs.Signs.{pastMinus, withSign}
 use Rattle.text_numbers.specs.declared.Number.the-variants.{Value, Malformed}
 use Rattle.text_numbers.specs.declared.Signed.the-variants as signed
 use Rattle.text_numbers.specs.Numbers.{digitsTo, numberTo, numberOf, negative, signedOf, signedText}
@@ -42,3 +44,16 @@ no-signed-numbers = (refl, refl, refl, refl, refl, refl, refl, refl)
 pub signed-texts : signedText (negsuc 32767) ≡ quoted "-32768"
 unfolding signedText decimal
 signed-texts = refl
+
+-- where the digits start: behind a minus, and else where the field does; past the end it stays
+pub starts : (pastMinus (quoted "-5") 0 ≡ 1) × (pastMinus (quoted "5-") 0 ≡ 0) × (pastMinus (quoted "S\t-5") 2 ≡ 3)
+    × (pastMinus (quoted "+5") 0 ≡ 0) × (pastMinus (quoted "-5") 2 ≡ 2)
+unfolding pastMinus
+starts = (refl, refl, refl, refl, refl)
+
+-- with a minus 1..32768, and without one 0..32767
+pub signs : (withSign true 0 ≡ signed.Malformed) × (withSign true 1 ≡ signed.Value (negsuc 0)) × (withSign true 32768 ≡ signed.Value (negsuc 32767))
+    × (withSign true 32769 ≡ signed.Malformed) × (withSign false 0 ≡ signed.Value (pos 0)) × (withSign false 32767 ≡ signed.Value (pos 32767))
+    × (withSign false 32768 ≡ signed.Malformed)
+unfolding withSign
+signs = (refl, refl, refl, refl, refl, refl, refl)
