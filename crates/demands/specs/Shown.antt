@@ -23,8 +23,8 @@ use Rattle.sample.specs.declared.Sample.{Sample}
 use Rattle.sample.specs.Measure.{trips, qualifies}
 use Rattle.protections.specs.Limits.{limitsAt}
 use Rattle.guard.specs.Steps.{raised, raised-when, released-when}
-use Rattle.laws.specs.Words.{bitsOf, anyOf, any-yes, any-bits}
-use Rattle.guard_raised.specs.Words.{raisedAfter, raisedWord, someRaised, blocked, raisedWord-has}
+use Rattle.laws.specs.Words.{bitsOf, anyOf, any-yes}
+use Rattle.guard_raised.specs.Words.{raisedAfter, raisedWord, someRaised, blocked, raisedWord-has, someRaised-word}
 use Rattle.page_settings.specs.declared.Settings.{Settings}
 use Rattle.page_settings.specs.Settings.{limitsFrom, settingsOf, rulesOf, noSettings, loadedWith, loadedOf}
 use Rattle.page_settings.specs.Good.{limits-at}
@@ -340,11 +340,11 @@ nobody-wants page s h e k =
     by-test (isCharging (page .rules .detection) (s .current)) (λ t. rw (t, e)) (λ t. rw t)
 
 none-bled : (page : Settings) (h : List Sample) → (raisedWord (page .limits) h ≡ 0 → ⊥) → bledAfter page h ≡ 0
-unfolding bledAfter bledWord wishesOf raisedWord someRaised
+unfolding bledAfter bledWord wishesOf
 none-bled page [] some = refl
 none-bled page (s ∷ h) some =
     let up : someRaised (page .limits) (s ∷ h) ≡ true =
-    any-bits (raisedAfter (page .limits) (s ∷ h)) protections (omega arith) ∙ rw (ne-eqb (raisedWord (page .limits) (s ∷ h)) 0 some) in
+    someRaised-word (page .limits) (s ∷ h) ∙ rw (ne-eqb (raisedWord (page .limits) (s ∷ h)) 0 some) in
     ap wordOf (walk-none (page .rules .k) (wishAt page s h) (resting (page .rules .r) (bledsAfter page h)) (nobody-wants page s h up)
     (order (page .rules .n) (startCell (page .rules .n) (length (wishesOf page h)))) [])
 
