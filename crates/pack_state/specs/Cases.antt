@@ -134,7 +134,7 @@ starred-made = refl
 abbrev reporting : Settings
 reporting =
     record {
-      rules = page .rules;
+      rules = page 1 .rules;
       limits =
           limited (pos 4250) (pos 4150) 2 3 1
           ∷ limited (pos 2500) (pos 2600) 2 3 2
@@ -149,13 +149,13 @@ reporting =
 
 -- Who wants and who is bled at one sample at which cell 2 exceeds the others.
 pub mask-zero-said :
-    (wishAt page (charged 4000 4020 4000) [] 2 ∷ wishAt reporting (charged 4000 4020 4000) [] 2 ∷ [] ≡ true ∷ false ∷ [])
-    × (bledAfter page (charged 4000 4020 4000 ∷ []) ∷ bledAfter reporting (charged 4000 4020 4000 ∷ []) ∷ [] ≡ 2 ∷ 0 ∷ [])
+    (wishAt (page 1) (charged 4000 4020 4000) [] 2 ∷ wishAt reporting (charged 4000 4020 4000) [] 2 ∷ [] ≡ true ∷ false ∷ [])
+    × (bledAfter (page 1) (charged 4000 4020 4000 ∷ []) ∷ bledAfter reporting (charged 4000 4020 4000 ∷ []) ∷ [] ≡ 2 ∷ 0 ∷ [])
 unfolding bledAfter bledWord wishesOf wishAt wishes cellOf wants someRaised anyOf raised rowAt table measure extremesOf bestOf withBit
 mask-zero-said = (refl, refl)
 
 pub mask-zero-made :
-    map (λ (p : Pack). p .balance .bled) (acceptedPack (freshPack page) (charged 4000 4020 4000) ∷ acceptedPack (freshPack reporting) (charged 4000 4020 4000) ∷ [])
+    map (λ (p : Pack). p .balance .bled) (acceptedPack (freshPack (page 1)) (charged 4000 4020 4000) ∷ acceptedPack (freshPack reporting) (charged 4000 4020 4000) ∷ [])
     ≡ 2 ∷ 0 ∷ []
 unfolding acceptedPack freshPack freshBalance nextBalance wantWith wantingWord wishes cellOf wants anyRaised anyOf stepAllWith
     stepWith stepOne nextRun protectionsOf protectionOf listOf raised rowAt table measure extremesOf bestOf restingWord rested runOf chosenWord
