@@ -1,6 +1,6 @@
 // Which cells to bleed: the walk over the cells that want and do not rest.
 ghost use mathlib.Core.Path.{_≡_};
-ghost use Rattle.bleed_wants.specs.Word.{inWord};
+ghost use Rattle.bleed_wants.specs.Word.{holdsCell};
 ghost use Rattle.bleed.specs.Walk.Word.{withCellIf};
 ghost use Rattle.bleed.specs.Walk.Steps.{isCell, Chosen, besideTaken, mayTake, takeOne};
 use crate::resting::next_cell;
@@ -10,7 +10,7 @@ use units::CellNo;
 
 // Cell k's bit, k - 1, is set in a word of cells; there is no cell 0.
 fn holds_cell(word: u16, cell: CellNo) -> bool
-    ensures { λ r. ⌜ r ≡ inWord word (cell .0) ⌝ }
+    ensures { λ r. ⌜ r ≡ holdsCell word (cell .0) ⌝ }
 {
     let k = cell.0;
     if 0 < k {

@@ -8,8 +8,8 @@ use Rattle.units.specs.declared.MilliVolts.{MilliVolts}
 use Rattle.laws.specs.Bits.{hasBit, withBit, withBitIf}
 use Rattle.laws.specs.Words.{bitsOf}
 use Rattle.bleed_wants.specs.Wants.{isCharging, wants}
-use Rattle.bleed_wants.specs.Word.{inWord, wordTo}
-use Rattle.bleed_wants.specs.Steps.{cellOf, wishes, wantingWord}
+use Rattle.bleed_wants.specs.Word.{holdsCell, cellsPassing}
+use Rattle.bleed_wants.specs.Steps.{voltsOf, wishes, wantingWord}
 
 -- "More than" the difference, "at or above" the floor, "at least" the detection current, which is signed.
 abbrev tests : List Bool
@@ -37,10 +37,10 @@ few-cells :
     wantingWord 4 true false 3900 10 4000 volts ∷ wantingWord 9 true false 3900 10 4000 volts ∷ wantingWord 10 true false 3900 10 4000 volts
     ∷ wantingWord 11 true false 3900 10 4000 volts ∷ wantingWord 4 true false 4400 10 4000 volts ∷ []
     ≡ 0x009 ∷ 0x019 ∷ 0x219 ∷ 0x219 ∷ 0x008 ∷ []
-unfolding wantingWord wordTo bitsOf wishes cellOf wants withBitIf withBit
+unfolding wantingWord cellsPassing bitsOf wishes voltsOf wants withBitIf withBit
 few-cells = refl
 
 -- Cell k has bit k - 1, and there is no cell 0.
-cells-of-a-word : map (inWord 0x201) (0 ∷ 1 ∷ 2 ∷ 9 ∷ 10 ∷ 11 ∷ []) ≡ false ∷ true ∷ false ∷ false ∷ true ∷ false ∷ []
-unfolding inWord hasBit
+cells-of-a-word : map (holdsCell 0x201) (0 ∷ 1 ∷ 2 ∷ 9 ∷ 10 ∷ 11 ∷ []) ≡ false ∷ true ∷ false ∷ false ∷ true ∷ false ∷ []
+unfolding holdsCell hasBit
 cells-of-a-word = refl

@@ -10,8 +10,8 @@ use lib.ListN.{getD}
 use Rattle.laws.specs.Tests.{by-test}
 use Rattle.units.specs.declared.MilliVolts.{MilliVolts}
 use Rattle.bleed_wants.specs.Wants.{wants}
-use Rattle.bleed_wants.specs.Word.{wordTo-none}
-use Rattle.bleed_wants.specs.Steps.{cellOf, wishes, wantingWord}
+use Rattle.bleed_wants.specs.Word.{cellsPassing-none}
+use Rattle.bleed_wants.specs.Steps.{voltsOf, wishes, wantingWord}
 
 -- No cell wants where there is no charge or a protection is raised.
 pub wanting-none : (n : ℕ) (charges raised : Bool) (floor difference lowest : ℕ) (cells : List MilliVolts) → (charges ≡ false) ⊎ (raised ≡ true)
@@ -19,8 +19,8 @@ pub wanting-none : (n : ℕ) (charges raised : Bool) (floor difference lowest : 
 unfolding wantingWord wishes wants
 wanting-none n charges raised floor difference lowest cells =
     ⊎-elim
-    (λ e. wordTo-none _ _ (λ k. rw e))
-    (λ e. wordTo-none _ _ (λ k. rw e (by-test charges (λ t. rw t) (λ t. rw t))))
+    (λ e. cellsPassing-none _ _ (λ k. rw e))
+    (λ e. cellsPassing-none _ _ (λ k. rw e (by-test charges (λ t. rw t) (λ t. rw t))))
 
 -- ---- one turn of the loop
 
@@ -30,6 +30,6 @@ after-one i = omega arith
 -- Cell i + 1 is entry i of the array. The loop is reached only with a charge and no protection raised.
 pub wishes-at : (charges raised : Bool) (floor difference lowest : ℕ) (cells : List MilliVolts) (i : ℕ) → charges ≡ true → raised ≡ false
     → wants true false floor difference lowest (getD cells i (record { 0 = 0 }) .0) ≡ wishes charges raised floor difference lowest cells (suc i)
-unfolding wishes cellOf
+unfolding wishes voltsOf
 wishes-at charges raised floor difference lowest cells i c r =
     rw (c, r) (ap (λ (x : ℕ). wants true false floor difference lowest (getD cells x (record { 0 = 0 }) .0)) (sym (after-one i)))

@@ -5,7 +5,7 @@ ghost use mathlib.Core.Bool.{true, false};
 ghost use Rattle.bleed_wants.specs.Steps.{wantingWord};
 use laws::with_bit_if;
 use units::MilliVolts;
-use units::looked_at;
+use units::ten_at_most;
 
 // The current is at least the charge detection current.
 pub fn is_charging(detection: i16, current: i16) -> bool
@@ -49,7 +49,7 @@ pub fn wanting_word(
     if raised {
         return 0;
     }
-    let last = looked_at(n);
+    let last = ten_at_most(n);
     let mut word: u16 = 0;
     let mut i: usize = 0;
     while i < last {

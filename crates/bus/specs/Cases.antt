@@ -12,18 +12,18 @@ use Rattle.units.specs.Signed.{wordOf}
 use Rattle.refusals.specs.Refusals.{answer}
 use Rattle.page_settings.specs.declared.Settings.{Settings}
 use Rattle.sample.specs.declared.Sample.{Sample}
-use Rattle.sample.specs.Cases.{minus, sampled}
+use Rattle.sample.specs.Cases.{belowZero, sampled}
 use Rattle.pack_state.specs.Past.{past}
-use Rattle.bus_table.specs.Table.{table, rowOf}
-use Rattle.bus.specs.Replies.{notInTable, cellAbove, replyRefusals, repliedFor, repliedAfter, frameOf, bytesOf, answerOfReply}
+use Rattle.bus_table.specs.Table.{table, rowOfCommand}
+use Rattle.bus.specs.Replies.{notInTable, cellAbove, replyRefusals, answerFor, answerAfter, frameOf, bytesOf, answerOfReply}
 
 -- ---- (*) "Current -2 is sent as FE FF; -32768 as 00 80", with their check bytes
 
-pub starred-minus-2 : bytesOf (frameOf 0x0A (wordOf (minus 2))) ≡ (0xFE ∷ 0xFF ∷ 0x60 ∷ [])
+pub starred-minus-2 : bytesOf (frameOf 0x0A (wordOf (belowZero 2))) ≡ (0xFE ∷ 0xFF ∷ 0x60 ∷ [])
 unfolding frameOf wordOf checkByte remainder withByte timesXs timesX
 starred-minus-2 = refl
 
-pub starred-minus-32768 : bytesOf (frameOf 0x0A (wordOf (minus 32768))) ≡ (0x00 ∷ 0x80 ∷ 0xD8 ∷ [])
+pub starred-minus-32768 : bytesOf (frameOf 0x0A (wordOf (belowZero 32768))) ≡ (0x00 ∷ 0x80 ∷ 0xD8 ∷ [])
 unfolding frameOf wordOf checkByte remainder withByte timesXs timesX
 starred-minus-32768 = refl
 
@@ -38,24 +38,24 @@ abbrev cell-commands : List ℕ
 cell-commands = 0x30 ∷ 0x31 ∷ 0x32 ∷ 0x33 ∷ 0x34 ∷ 0x35 ∷ 0x36 ∷ 0x37 ∷ 0x38 ∷ 0x39 ∷ []
 
 -- Which of the 256 commands are in the table.
-pub commands : those (λ c. not (notInTable (rowOf c))) (countFrom 0 256)
+pub commands : those (λ c. not (notInTable (rowOfCommand c))) (countFrom 0 256)
     ≡ (0x08 ∷ 0x09 ∷ 0x0A ∷ 0x14 ∷ 0x15 ∷ 0x16 ∷ 0x30 ∷ 0x31 ∷ 0x32 ∷ 0x33 ∷ 0x34 ∷ 0x35 ∷ 0x36 ∷ 0x37 ∷ 0x38 ∷ 0x39 ∷ 0x41 ∷ 0x42 ∷ 0x44 ∷ 0x45 ∷ 0x46 ∷ [])
-unfolding rowOf table notInTable
+unfolding rowOfCommand table notInTable
 commands = refl
 
 -- ---- refusals
 
 -- The answers to some commands of a pack of n cells, at a buffer of `room` bytes.
 abbrev answers : ℕ → Bool → ℕ → List ℕ → List ℕ
-answers n sampled room cs = map (λ c. answerOfReply (repliedFor n sampled c room) .number) cs
+answers n sampled room cs = map (λ c. answerOfReply (answerFor n sampled c room) .number) cs
 
 -- A command that is not in the table gives 12, whatever the buffer, before a sample and after one.
 pub not-in-table : answers 10 true 3 (0x3A ∷ 0x3F ∷ 0x40 ∷ 0x43 ∷ 0x47 ∷ 0x00 ∷ 0xFF ∷ []) ≡ replicate 7 12
-unfolding repliedFor replyRefusals rowOf table notInTable cellAbove
+unfolding answerFor replyRefusals rowOfCommand table notInTable cellAbove
 not-in-table = refl
 
 pub not-in-table-first : answers 2 false 0 (0x3A ∷ 0x3F ∷ 0x40 ∷ 0x43 ∷ 0x47 ∷ 0x00 ∷ 0xFF ∷ []) ≡ replicate 7 12
-unfolding repliedFor replyRefusals rowOf table notInTable cellAbove
+unfolding answerFor replyRefusals rowOfCommand table notInTable cellAbove
 not-in-table-first = refl
 
 -- "Cell command for a cell above n" gives 13: cells 1 to 10 of a pack of n cells, for each n from 2 to 10,
@@ -71,26 +71,26 @@ pub cell-above
     ∷ (0 ∷ 0 ∷ 0 ∷ 0 ∷ 0 ∷ 0 ∷ 0 ∷ 0 ∷ 0 ∷ 13 ∷ [])
     ∷ (0 ∷ 0 ∷ 0 ∷ 0 ∷ 0 ∷ 0 ∷ 0 ∷ 0 ∷ 0 ∷ 0 ∷ [])
     ∷ [])
-unfolding repliedFor replyRefusals rowOf table notInTable cellAbove
+unfolding answerFor replyRefusals rowOfCommand table notInTable cellAbove
 cell-above = refl
 
 -- also before a sample and whatever the buffer;
 pub cell-above-first : answers 4 false 2 (0x33 ∷ 0x34 ∷ 0x39 ∷ []) ≡ (14 ∷ 13 ∷ 13 ∷ [])
-unfolding repliedFor replyRefusals rowOf table notInTable cellAbove
+unfolding answerFor replyRefusals rowOfCommand table notInTable cellAbove
 cell-above-first = refl
 
 -- and no other command is one for a cell.
-pub cells-alone : those (λ c. cellAbove 0 (rowOf c)) (countFrom 0 256) ≡ cell-commands
-unfolding rowOf table cellAbove
+pub cells-alone : those (λ c. cellAbove 0 (rowOfCommand c)) (countFrom 0 256) ≡ cell-commands
+unfolding rowOfCommand table cellAbove
 cells-alone = refl
 
 -- A buffer of two bytes or of four gives 14, 0x41 before a sample too.
 pub wrong-buffer : answers 10 false 2 (0x41 ∷ 0x45 ∷ 0x30 ∷ []) ≡ (14 ∷ 14 ∷ 14 ∷ [])
-unfolding repliedFor replyRefusals rowOf table notInTable cellAbove
+unfolding answerFor replyRefusals rowOfCommand table notInTable cellAbove
 wrong-buffer = refl
 
 pub long-buffer : answers 10 true 4 (0x41 ∷ 0x45 ∷ 0x30 ∷ []) ≡ (14 ∷ 14 ∷ 14 ∷ [])
-unfolding repliedFor replyRefusals rowOf table notInTable cellAbove
+unfolding answerFor replyRefusals rowOfCommand table notInTable cellAbove
 long-buffer = refl
 
 -- Before the first sample 0x41 alone is answered: each of the 256 commands, sixteen to a line.
@@ -101,7 +101,7 @@ pub no-sample
     ∷ 12 ∷ 12 ∷ 12 ∷ 12 ∷ 12 ∷ 12 ∷ 12 ∷ 12 ∷ 12 ∷ 12 ∷ 12 ∷ 12 ∷ 12 ∷ 12 ∷ 12 ∷ 12
     ∷ 15 ∷ 15 ∷ 15 ∷ 15 ∷ 15 ∷ 15 ∷ 15 ∷ 15 ∷ 15 ∷ 15 ∷ 12 ∷ 12 ∷ 12 ∷ 12 ∷ 12 ∷ 12
     ∷ 12 ∷ 0 ∷ 15 ∷ 12 ∷ 15 ∷ 15 ∷ 15 ∷ replicate 185 12)
-unfolding repliedFor replyRefusals rowOf table notInTable cellAbove
+unfolding answerFor replyRefusals rowOfCommand table notInTable cellAbove
 no-sample = refl
 
 -- ---- of a page and a past
@@ -127,21 +127,21 @@ abbrev four : Sample
 four = sampled 4 (4001 ∷ 4002 ∷ 4003 ∷ 4004 ∷ 0 ∷ 0 ∷ 0 ∷ 0 ∷ 0 ∷ 0 ∷ []) (pos 0) 2980 2980
 
 pub of-a-page
-    : (map (λ c. answerOfReply (repliedAfter page (past (four ∷ []) 0) c 3) .number) cell-commands
-    ∷ map (λ c. answerOfReply (repliedAfter page (past [] 3) c 3) .number) (0x41 ∷ 0x45 ∷ 0x33 ∷ 0x34 ∷ [])
+    : (map (λ c. answerOfReply (answerAfter page (past (four ∷ []) 0) c 3) .number) cell-commands
+    ∷ map (λ c. answerOfReply (answerAfter page (past [] 3) c 3) .number) (0x41 ∷ 0x45 ∷ 0x33 ∷ 0x34 ∷ [])
     ∷ [])
     ≡ ((0 ∷ 0 ∷ 0 ∷ 0 ∷ 13 ∷ 13 ∷ 13 ∷ 13 ∷ 13 ∷ 13 ∷ []) ∷ (0 ∷ 15 ∷ 15 ∷ 13 ∷ []) ∷ [])
-unfolding repliedAfter repliedFor replyRefusals rowOf table notInTable cellAbove
+unfolding answerAfter answerFor replyRefusals rowOfCommand table notInTable cellAbove
 of-a-page = refl
 
 -- "The others name word 0."
 pub word-0
-    : map answerOfReply (repliedFor 2 true 0x3A 3 ∷ repliedFor 2 true 0x32 3 ∷ repliedFor 2 true 0x31 2 ∷ repliedFor 2 false 0x31 3 ∷ repliedFor 2 true 0x31 3 ∷ [])
+    : map answerOfReply (answerFor 2 true 0x3A 3 ∷ answerFor 2 true 0x32 3 ∷ answerFor 2 true 0x31 2 ∷ answerFor 2 false 0x31 3 ∷ answerFor 2 true 0x31 3 ∷ [])
     ≡ (answer 12 0 ∷ answer 13 0 ∷ answer 14 0 ∷ answer 15 0 ∷ answer 0 0 ∷ [])
-unfolding repliedFor replyRefusals rowOf table notInTable cellAbove
+unfolding answerFor replyRefusals rowOfCommand table notInTable cellAbove
 word-0 = refl
 
 -- A pack without a page.
 pub no-page : answers 0 false 3 (0x41 ∷ 0x45 ∷ 0x30 ∷ 0x39 ∷ 0x3A ∷ []) ≡ (0 ∷ 15 ∷ 13 ∷ 13 ∷ 12 ∷ [])
-unfolding repliedFor replyRefusals rowOf table notInTable cellAbove
+unfolding answerFor replyRefusals rowOfCommand table notInTable cellAbove
 no-page = refl

@@ -13,22 +13,22 @@ use Rattle.refusals.specs.declared.Verdict.{Verdict}
 use Rattle.refusals.specs.declared.Verdict.the-variants.{Accepted, Refused as PageRefused}
 use Rattle.pack_state.specs.declared.Pack.{Pack}
 use Rattle.pack.specs.Events.{Event}
-use Rattle.pack_state.specs.State.{stateOf}
-use Rattle.pack.specs.Kept.{pageOf, pastAfter, stateAfter}
+use Rattle.pack_state.specs.State.{stateAfter}
+use Rattle.pack.specs.Kept.{pageOf, pastAfter, packAfter}
 use Rattle.pack.specs.After.{after, after-is}
 use Rattle.bus.specs.declared.answer.Replied.{Replied}
 use Rattle.bus.specs.declared.answer.Replied.the-variants.{Sent, Refused}
-use Rattle.bus_table.specs.Table.{rowOf}
+use Rattle.bus_table.specs.Table.{rowOfCommand}
 use Rattle.bus_words.specs.Words.{sentWord, saidOf}
 use Rattle.bus_words.specs.Demands.{word-is}
-use Rattle.bus.specs.Replies.{replyRefusals, repliedFor, frameOf, bytesOf, bytesFor, repliedAfter, bufferAfter, answerTo, bufferOf}
+use Rattle.bus.specs.Replies.{replyRefusals, answerFor, frameOf, bytesOf, bytesFor, answerAfter, bufferAfter, answerTo, bufferOf}
 
 -- ---- after any load and calls
 
 module _ (bytes : List ℕ) (es : List Event) where
   -- The answer to every command, for a buffer of any length,
-  pub answer-is : (c room : ℕ) → answerTo (after bytes es) c room ≡ repliedAfter (pageOf bytes) (pastAfter bytes es) c room
-  unfolding stateAfter stateOf answerTo repliedAfter
+  pub answer-is : (c room : ℕ) → answerTo (after bytes es) c room ≡ answerAfter (pageOf bytes) (pastAfter bytes es) c room
+  unfolding packAfter stateAfter answerTo answerAfter
   answer-is c room = ap (λ (p : Pack). answerTo p c room) (after-is bytes es)
 
   -- and what then stands in the buffer.
@@ -51,15 +51,15 @@ verdict-one (Refused k) Sent e = absurd (refused-not k 0 e)
 verdict-one (Refused k) (Refused j) e = ap Refused (refused-one k 0 j 0 e .0)
 
 module _ (n : ℕ) (sampled : Bool) (c room : ℕ) where
-  as-verdict : verdictOf (repliedFor n sampled c room) ≡ first PageRefused Accepted (replyRefusals n sampled c room)
-  unfolding repliedFor replyRefusals
+  as-verdict : verdictOf (answerFor n sampled c room) ≡ first PageRefused Accepted (replyRefusals n sampled c room)
+  unfolding answerFor replyRefusals
   as-verdict = first-map verdictOf (λ (number word : ℕ). Refused number) Sent (replyRefusals n sampled c room)
 
-  through : (r : Replied) → (repliedFor n sampled c room ≡ r) ↔ (first PageRefused Accepted (replyRefusals n sampled c room) ≡ verdictOf r)
-  through r = (λ e. sym as-verdict ∙ ap verdictOf e, λ e. verdict-one (repliedFor n sampled c room) r (as-verdict ∙ e))
+  through : (r : Replied) → (answerFor n sampled c room ≡ r) ↔ (first PageRefused Accepted (replyRefusals n sampled c room) ≡ verdictOf r)
+  through r = (λ e. sym as-verdict ∙ ap verdictOf e, λ e. verdict-one (answerFor n sampled c room) r (as-verdict ∙ e))
 
   -- A command is answered exactly if no row applies,
-  pub sent-exactly : (repliedFor n sampled c room ≡ Sent) ↔ NoFault (replyRefusals n sampled c room)
+  pub sent-exactly : (answerFor n sampled c room ≡ Sent) ↔ NoFault (replyRefusals n sampled c room)
   unfolding replyRefusals
   sent-exactly =
       let t = through Sent in
@@ -67,7 +67,7 @@ module _ (n : ℕ) (sampled : Bool) (c room : ℕ) where
       (λ e. x .0 (t .0 e), λ f. t .1 (x .1 f))
 
   -- and refused with a number exactly if its row applies and no lower row does.
-  pub refused-exactly : (k : ℕ) → (repliedFor n sampled c room ≡ Refused k) ↔ Lowest (replyRefusals n sampled c room) k 0
+  pub refused-exactly : (k : ℕ) → (answerFor n sampled c room ≡ Refused k) ↔ Lowest (replyRefusals n sampled c room) k 0
   unfolding replyRefusals
   refused-exactly k =
       let t = through (Refused k) in
@@ -81,6 +81,6 @@ refused-untouched p c k b e = rw e
 
 -- what is sent are the three bytes of the command's word, and nothing else.
 pub sent-bytes : (p : Pack) (c : ℕ) (b : List ℕ) → answerTo p c (length b) ≡ Sent
-    → bufferOf p c b ≡ bytesOf (frameOf c (sentWord (saidOf p) (rowOf c)))
+    → bufferOf p c b ≡ bytesOf (frameOf c (sentWord (saidOf p) (rowOfCommand c)))
 unfolding bufferOf
 sent-bytes p c b e = rw e

@@ -20,7 +20,7 @@ use Rattle.bus_table.specs.declared.Sends.the-variants.{Nothing, Cell, Whole}
 use Rattle.bus.specs.declared.answer.Framed.{Framed}
 use Rattle.bus.specs.declared.answer.Replied.{Replied}
 use Rattle.bus.specs.declared.answer.Replied.the-variants.{Sent, Refused}
-use Rattle.bus_table.specs.Table.{rowOf}
+use Rattle.bus_table.specs.Table.{rowOfCommand}
 use Rattle.bus_words.specs.Words.{sentWord, wordAfter, saidOf}
 
 -- ---- refusals
@@ -50,15 +50,15 @@ givenIf number test = refusal number (rule 0 (not test) ∷ [])
 -- and there is no sample: each cell command gives 13, and 0x41 alone can be answered, with mode 0.
 unfoldable pub replyRefusals : ℕ → Bool → ℕ → ℕ → List Refusal
 replyRefusals n sampled c room =
-    givenIf 12 (notInTable (rowOf c))
-    ∷ givenIf 13 (cellAbove n (rowOf c))
+    givenIf 12 (notInTable (rowOfCommand c))
+    ∷ givenIf 13 (cellAbove n (rowOfCommand c))
     ∷ givenIf 14 (not (eqb room 3))
     ∷ givenIf 15 (not sampled && not (eqb c 0x41))
     ∷ []
 
 -- The lowest number that applies is given; what no row fits is answered.
-unfoldable pub repliedFor : ℕ → Bool → ℕ → ℕ → Replied
-repliedFor n sampled c room = first (λ (number word : ℕ). Refused number) Sent (replyRefusals n sampled c room)
+unfoldable pub answerFor : ℕ → Bool → ℕ → ℕ → Replied
+answerFor n sampled c room = first (λ (number word : ℕ). Refused number) Sent (replyRefusals n sampled c room)
 
 -- ---- bytes
 
@@ -83,11 +83,11 @@ Fitting r b = r ≡ Sent → length b ≡ 3
 
 -- ---- from the page and the past
 
-unfoldable pub repliedAfter : Settings → Past → ℕ → ℕ → Replied
-repliedAfter page p c room = repliedFor (page .rules .n) (anySample (p .history)) c room
+unfoldable pub answerAfter : Settings → Past → ℕ → ℕ → Replied
+answerAfter page p c room = answerFor (page .rules .n) (anySample (p .history)) c room
 
 unfoldable pub bufferAfter : Settings → Past → ℕ → List ℕ → List ℕ
-bufferAfter page p c b = bytesFor (repliedAfter page p c (length b)) (frameOf c (wordAfter page p c)) b
+bufferAfter page p c b = bytesFor (answerAfter page p c (length b)) (frameOf c (wordAfter page p c)) b
 
 -- ---- from the state
 
@@ -95,17 +95,17 @@ abbrev pub refusalsOf : Pack → ℕ → ℕ → List Refusal
 refusalsOf p c room = replyRefusals (p .rules .n) (p .sampled) c room
 
 unfoldable pub answerTo : Pack → ℕ → ℕ → Replied
-answerTo p c room = repliedFor (p .rules .n) (p .sampled) c room
+answerTo p c room = answerFor (p .rules .n) (p .sampled) c room
 
 unfoldable pub bufferOf : Pack → ℕ → List ℕ → List ℕ
-bufferOf p c b = bytesFor (answerTo p c (length b)) (frameOf c (sentWord (saidOf p) (rowOf c))) b
+bufferOf p c b = bytesFor (answerTo p c (length b)) (frameOf c (sentWord (saidOf p) (rowOfCommand c))) b
 
 -- ---- what the code needs of them
 
 -- The number and word of an answer are the table's.
 pub answer-given : (p : Pack) (c room : ℕ) (r : Replied) → r ≡ answerTo p c room
     → (r ≡ answerTo p c room) × (answerOfReply r ≡ given (refusalsOf p c room))
-unfolding answerTo repliedFor replyRefusals
+unfolding answerTo answerFor replyRefusals
 answer-given p c room r e =
     (e, ap answerOfReply e ∙ first-map answerOfReply (λ (number word : ℕ). Refused number) Sent (refusalsOf p c room))
 
@@ -121,13 +121,13 @@ pub sent-not : (number : ℕ) → Refused number ≡ Sent → ⊥
 sent-not number e = let z : true ≡ false = cc in true≢false z
 
 -- What is sent goes into a buffer of three bytes.
-pub sent-room : (n : ℕ) (sampled : Bool) (c room : ℕ) → repliedFor n sampled c room ≡ Sent → room ≡ 3
-unfolding repliedFor replyRefusals
+pub sent-room : (n : ℕ) (sampled : Bool) (c room : ℕ) → answerFor n sampled c room ≡ Sent → room ≡ 3
+unfolding answerFor replyRefusals
 sent-room n sampled c room e =
     by-test (eqb room 3)
     (λ t. eqb-true room 3 t)
-    (λ t. absurd (by-test (notInTable (rowOf c))
+    (λ t. absurd (by-test (notInTable (rowOfCommand c))
     (λ u. sent-not 12 (rw u at e))
-    (λ u. by-test (cellAbove n (rowOf c))
+    (λ u. by-test (cellAbove n (rowOfCommand c))
     (λ v. sent-not 13 (rw (u, v) at e))
     (λ v. sent-not 14 (rw (u, v, t) at e)))))

@@ -6,8 +6,8 @@ use Rattle.text_fields.specs.Quoted.{quoted}
 use Rattle.text_fields.specs.Fields.{lineOf}
 use Rattle.text_fields.specs.Decimal.{decimal}
 use Rattle.pack_state.specs.declared.Pack.{Pack}
-use Rattle.bus_table.specs.Table.{rowOf}
-use Rattle.bus.specs.Replies.{notInTable, replyRefusals, repliedFor, answerTo}
+use Rattle.bus_table.specs.Table.{rowOfCommand}
+use Rattle.bus.specs.Replies.{notInTable, replyRefusals, answerFor, answerTo}
 use Rattle.bus.specs.declared.answer.Replied.the-variants.{Sent, Refused}
 use Rattle.bus_lines.specs.Lines.{hexDigit, hexByte, hexBytes, lineFor, wordLine, wordLines}
 
@@ -25,5 +25,5 @@ answers = (refl, refl, refl)
 
 -- the first two lines of any pack, in this order
 pub first-lines : (p : Pack) → wordLines p 2 ≡ quoted "00\trefused\t12\n01\trefused\t12\n"
-unfolding wordLines wordLine lineFor lineOf hexByte hexDigit decimal answerTo repliedFor replyRefusals notInTable rowOf
+unfolding wordLines wordLine lineFor lineOf hexByte hexDigit decimal answerTo answerFor replyRefusals notInTable rowOfCommand
 first-lines p = refl

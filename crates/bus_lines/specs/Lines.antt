@@ -20,7 +20,7 @@ use Rattle.pack.specs.Kept.{pageOf, pastAfter}
 use Rattle.pack.specs.After.{after}
 use Rattle.bus.specs.declared.answer.Replied.{Replied}
 use Rattle.bus.specs.declared.answer.Replied.the-variants.{Sent, Refused}
-use Rattle.bus.specs.Replies.{answerTo, bufferOf, repliedAfter, bufferAfter}
+use Rattle.bus.specs.Replies.{answerTo, bufferOf, answerAfter, bufferAfter}
 use Rattle.bus.specs.Demands.{answer-is, buffer-is}
 
 -- ---- a line
@@ -74,7 +74,7 @@ unfoldable pub wordLinesAfter : List ℕ → List Event → ℕ → List ℕ
 wordLinesAfter page es zero = []
 wordLinesAfter page es (suc c) =
     wordLinesAfter page es c
-    ++ lineFor c (repliedAfter (pageOf page) (pastAfter page es) c 3) (bufferAfter (pageOf page) (pastAfter page es) c lent)
+    ++ lineFor c (answerAfter (pageOf page) (pastAfter page es) c 3) (bufferAfter (pageOf page) (pastAfter page es) c lent)
 
 -- After a load and any events the lines are those that the page and the past say.
 pub words-are : (page : List ℕ) (es : List Event) (c : ℕ) → wordLines (after page es) c ≡ wordLinesAfter page es c

@@ -52,9 +52,9 @@ abbrev pub lookUp : List Row → ℕ → Sends
 lookUp [] c = Nothing
 lookUp (r ∷ rs) c = cond (eqb c (r .command)) (r .sends) (lookUp rs c)
 
-unfoldable pub rowOf : ℕ → Sends
+unfoldable pub rowOfCommand : ℕ → Sends
 unfolding table
-rowOf c = lookUp table c
+rowOfCommand c = lookUp table c
 
 -- ---- what the code needs of it
 
@@ -72,6 +72,6 @@ others-none [] c T o = refl
 others-none (r ∷ rs) c T o =
     rw (ne-eqb c (r .command) (others-keep rs c (T × (c ≡ r .command → ⊥)) o .1)) (others-none rs c (T × (c ≡ r .command → ⊥)) o)
 
-pub row-none : (c : ℕ) → Others table c (Unit {0}) → Nothing ≡ rowOf c
-unfolding rowOf
+pub row-none : (c : ℕ) → Others table c (Unit {0}) → Nothing ≡ rowOfCommand c
+unfolding rowOfCommand
 row-none c o = sym (others-none table c (Unit {0}) o)

@@ -1,6 +1,6 @@
 // The commands of the bus: what each of them sends.
 ghost use mathlib.Core.Path.{_≡_};
-ghost use Rattle.bus_table.specs.Table.{rowOf};
+ghost use Rattle.bus_table.specs.Table.{rowOfCommand};
 use units::CellNo;
 
 // The words that a pack has one of.
@@ -26,7 +26,7 @@ pub enum Sends {
 
 // What a command sends: document 01's table, in its order.
 pub fn row_of_command(command: u8) -> Sends
-    ensures { λ r. ⌜ r ≡ rowOf command ⌝ }
+    ensures { λ r. ⌜ r ≡ rowOfCommand command ⌝ }
 {
     match command {
         0x08 => Sends::Whole(PackWord::Temperature1),

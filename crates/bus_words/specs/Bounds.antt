@@ -15,14 +15,14 @@ use Rattle.laws.specs.Tests.{by-test, clash, and-left, and-right}
 use Rattle.laws.specs.Each.{eachTo}
 use Rattle.units.specs.declared.MilliVolts.{MilliVolts}
 use Rattle.sample.specs.declared.Sample.{Sample}
-use Rattle.units.specs.Cells.{lookedAt, looked-most}
+use Rattle.units.specs.Cells.{tenAtMost, ten-most}
 use Rattle.sample.specs.Cells.{noVolts}
 use Rattle.pack_refusals.specs.Samples.{cellFits, cellsFit, exactCount, keptCell, trimmed, sampleRefusals, sampleVerdict, commandVerdict}
 use Rattle.page_settings.specs.Good.{Good}
 use Rattle.pack_state.specs.declared.Pack.{Pack}
 use Rattle.pack.specs.Events.{Event, offer, command, accepts, withEvent, pastOf}
-use Rattle.pack_state.specs.State.{latestOf, stateOf}
-use Rattle.pack.specs.Kept.{Kept, pageOf, stateAfter}
+use Rattle.pack_state.specs.State.{latestAfter, stateAfter}
+use Rattle.pack.specs.Kept.{Kept, pageOf, packAfter}
 use Rattle.pack.specs.Calls.{page-good}
 use Rattle.bus_words.specs.Words.{sumTo, sumWord, Bounded}
 
@@ -67,23 +67,23 @@ sum-most cells (suc k) h =
     omega arith
 
 -- The cells of an accepted sample fit.
-accepted-fits : (n : ℕ) (s : Sample) → accepts (sampleVerdict n s) ≡ true → cellsFit (s .cells) (lookedAt (s .count)) ≡ true
+accepted-fits : (n : ℕ) (s : Sample) → accepts (sampleVerdict n s) ≡ true → cellsFit (s .cells) (tenAtMost (s .count)) ≡ true
 unfolding sampleVerdict sampleRefusals
 accepted-fits n s e =
-    by-test (cellsFit (s .cells) (lookedAt (s .count)))
+    by-test (cellsFit (s .cells) (tenAtMost (s .count)))
     (λ t. t)
     (λ t. by-test (exactCount n (s .count)) (λ u. clash e (rw (u, t))) (λ u. clash e (rw u)))
 
 trimmed-most : (n : ℕ) (s : Sample) → accepts (sampleVerdict n s) ≡ true → sumWord (trimmed s) ≤ 60000
 unfolding trimmed
 trimmed-most n s e =
-    let few = looked-most (s .count) in
-    let sum = sum-most (trimmed s .cells) (lookedAt (s .count))
-    (λ i h. kept-most (s .count) (s .cells) i (fits-most (s .cells) (lookedAt (s .count)) (accepted-fits n s e) i h) 10) in
+    let few = ten-most (s .count) in
+    let sum = sum-most (trimmed s .cells) (tenAtMost (s .count))
+    (λ i h. kept-most (s .count) (s .cells) i (fits-most (s .cells) (tenAtMost (s .count)) (accepted-fits n s e) i h) 10) in
     omega arith
 
 -- The sum of the latest sample's cells, after any events.
-pub latest-most : (n : ℕ) (es : List Event) → sumWord (latestOf (pastOf n es .history)) ≤ 60000
+pub latest-most : (n : ℕ) (es : List Event) → sumWord (latestAfter (pastOf n es .history)) ≤ 60000
 unfolding pastOf withEvent sumTo
 latest-most n [] = omega arith
 latest-most n (offer s ∷ es) =
@@ -105,7 +105,7 @@ voltage-most bytes =
     rw none (omega arith))
 
 pub kept-bounded : (p : Pack) → Kept p → Bounded p
-unfolding stateAfter stateOf
+unfolding packAfter stateAfter
 kept-bounded p k =
     record {
       sum = rw (k .is) (latest-most (pageOf (k .bytes) .rules .n) (k .events));

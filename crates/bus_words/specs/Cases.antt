@@ -15,23 +15,23 @@ use Rattle.page_words.specs.Ranges.{within}
 use Rattle.protections.specs.declared.Limits.{Limits}
 use Rattle.protections.specs.Table.{rowAt, table as rows}
 use Rattle.sample.specs.Cells.{bestOf, extremesOf}
-use Rattle.sample.specs.Cases.{minus, sampled}
+use Rattle.sample.specs.Cases.{belowZero, sampled}
 use Rattle.guard.specs.Cases.{limited}
 use Rattle.sample.specs.Measure.{measure}
 use Rattle.guard.specs.Steps.{raised}
 use Rattle.laws.specs.Words.{bitsOf, anyOf}
-use Rattle.guard_raised.specs.Words.{raisedWord, someRaised, blocked}
-use Rattle.bleed.specs.Walk.Balance.{bledWord}
-use Rattle.bleed_wants.specs.Steps.{cellOf, wishes}
+use Rattle.guard_raised.specs.Words.{raisedWordAfter, anyRaisedAfter, blocksAfter}
+use Rattle.bleed.specs.Walk.Balance.{bledWordAfter}
+use Rattle.bleed_wants.specs.Steps.{voltsOf, wishes}
 use Rattle.bleed_wants.specs.Wants.{wants}
 use Rattle.bleed.specs.Walk.Word.{withCellIf}
 use Rattle.pack_refusals.specs.Samples.{cellsFit, keptCell, trimmed, sampleRefusals, sampleVerdict, commandRefusals, commandVerdict}
 use Rattle.page_settings.specs.declared.Rules.{Rules}
 use Rattle.page_settings.specs.declared.Settings.{Settings}
 use Rattle.pack.specs.Events.{Event, offer, command, withEvent, pastOf}
-use Rattle.pack_state.specs.State.{wishAt, wishesOf, bledAfter}
+use Rattle.pack_state.specs.State.{wishAt, wishesAfter, bledAfter}
 use Rattle.pack_shown.specs.Shown.{modeOrder, firstMode, modeAfter}
-use Rattle.bus_table.specs.Table.{table, rowOf}
+use Rattle.bus_table.specs.Table.{table, rowOfCommand}
 use Rattle.bus_words.specs.Words.{sumTo, cellWord, heatRaised, statusWord, withSwitches, packWord, sentWord, wordAfter}
 
 -- ---- battery status, each bit by itself, beside 0x0080
@@ -60,8 +60,8 @@ abbrev never : List Limits
 never =
     limited (pos 0) (pos 1) 1 1 3
     ∷ limited (pos 32767) (pos 0) 1 1 3
-    ∷ limited (minus 32768) (pos 0) 1 1 3
-    ∷ limited (minus 32768) (pos 0) 1 1 3
+    ∷ limited (belowZero 32768) (pos 0) 1 1 3
+    ∷ limited (belowZero 32768) (pos 0) 1 1 3
     ∷ limited (pos 3930) (pos 3000) 1 1 3
     ∷ limited (pos 3930) (pos 3000) 1 1 3
     ∷ limited (pos 3930) (pos 3000) 1 1 3
@@ -104,19 +104,19 @@ all = 0x08 ∷ 0x44 ∷ 0x09 ∷ 0x42 ∷ 0x0A ∷ 0x14 ∷ 0x15 ∷ 0x16 ∷ 0x
 -- After the second sample cell 1 is bled, and both switches are on.
 pub second-sample : words replayed (two (pos 500) 2981 2999 4260 4100 ∷ two (pos 500) 2980 2980 4000 4020 ∷ command 3 ∷ []) all
     ≡ (2981 ∷ 2999 ∷ 8360 ∷ 8360 ∷ 500 ∷ 1500 ∷ 8400 ∷ 0x0080 ∷ 4260 ∷ 4100 ∷ 0 ∷ 0x03 ∷ 0x0300 ∷ 0x0001 ∷ [])
-unfolding wordAfter rowOf table sentWord packWord sumTo cellWord statusWord heatRaised withSwitches withBitIf withBit hasBit wordOf pastOf
+unfolding wordAfter rowOfCommand table sentWord packWord sumTo cellWord statusWord heatRaised withSwitches withBitIf withBit hasBit wordOf pastOf
     withEvent sampleVerdict sampleRefusals within cellsFit trimmed eachTo keptCell commandVerdict commandRefusals modeAfter firstMode
-    modeOrder raisedWord blocked someRaised bitsOf anyOf raised rowAt rows measure extremesOf bestOf bledAfter bledWord wishesOf wishAt
-    wishes cellOf wants withCellIf
+    modeOrder raisedWordAfter blocksAfter anyRaisedAfter bitsOf anyOf raised rowAt rows measure extremesOf bestOf bledAfter bledWordAfter wishesAfter wishAt
+    wishes voltsOf wants withCellIf
 second-sample = refl
 
 -- After the third, protection 0 is raised and blocks charge: the charging words are 0.
 pub third-sample : words replayed first-three all
     ≡ (2980 ∷ 2980 ∷ 8360 ∷ 8360 ∷ 500 ∷ 0 ∷ 0 ∷ 0xC080 ∷ 4260 ∷ 4100 ∷ 0 ∷ 0x15 ∷ 0x0201 ∷ 0x0000 ∷ [])
-unfolding wordAfter rowOf table sentWord packWord sumTo cellWord statusWord heatRaised withSwitches withBitIf withBit hasBit wordOf pastOf
+unfolding wordAfter rowOfCommand table sentWord packWord sumTo cellWord statusWord heatRaised withSwitches withBitIf withBit hasBit wordOf pastOf
     withEvent sampleVerdict sampleRefusals within cellsFit trimmed eachTo keptCell commandVerdict commandRefusals modeAfter firstMode
-    modeOrder raisedWord blocked someRaised bitsOf anyOf raised rowAt rows measure extremesOf bestOf bledAfter bledWord wishesOf wishAt
-    wishes cellOf wants withCellIf
+    modeOrder raisedWordAfter blocksAfter anyRaisedAfter bitsOf anyOf raised rowAt rows measure extremesOf bestOf bledAfter bledWordAfter wishesAfter wishAt
+    wishes voltsOf wants withCellIf
 third-sample = refl
 
 -- 0x45 before a switch command and after each; a refused command changes nothing, and no word but 0x45 follows one.
@@ -130,8 +130,8 @@ one-sample = two (pos 500) 2980 2980 4000 4000 ∷ []
 pub follows-commands
     : map (λ cs. wordAfter replayed (pastOf 2 (after-commands cs one-sample)) 0x45) ([] ∷ (1 ∷ []) ∷ (2 ∷ []) ∷ (3 ∷ []) ∷ (0 ∷ 3 ∷ []) ∷ (4 ∷ 3 ∷ []) ∷ [])
     ≡ (0x0000 ∷ 0x0100 ∷ 0x0200 ∷ 0x0300 ∷ 0x0000 ∷ 0x0300 ∷ [])
-unfolding wordAfter rowOf table sentWord packWord withSwitches withBitIf withBit hasBit pastOf withEvent sampleVerdict sampleRefusals within
-    cellsFit trimmed eachTo keptCell commandVerdict commandRefusals raisedWord blocked bitsOf anyOf raised rowAt rows measure extremesOf
+unfolding wordAfter rowOfCommand table sentWord packWord withSwitches withBitIf withBit hasBit pastOf withEvent sampleVerdict sampleRefusals within
+    cellsFit trimmed eachTo keptCell commandVerdict commandRefusals raisedWordAfter blocksAfter bitsOf anyOf raised rowAt rows measure extremesOf
     bestOf
 follows-commands = refl
 
@@ -143,8 +143,8 @@ each =
     (limited (pos 4250) (pos 4150) 1 1 1
     ∷ limited (pos 3000) (pos 3100) 1 1 2
     ∷ limited (pos 900) (pos 800) 1 1 0
-    ∷ limited (minus 900) (minus 800) 1 1 2
-    ∷ limited (minus 2000) (minus 1900) 1 1 3
+    ∷ limited (belowZero 900) (belowZero 800) 1 1 2
+    ∷ limited (belowZero 2000) (belowZero 1900) 1 1 3
     ∷ limited (pos 3230) (pos 3130) 1 1 1
     ∷ limited (pos 3330) (pos 3230) 1 1 2
     ∷ limited (pos 3330) (pos 3230) 1 1 0
@@ -160,8 +160,8 @@ pub by-themselves
     ∷ seen (pos 100) 2980 2980 4250
     ∷ seen (pos 100) 2980 2980 3000
     ∷ seen (pos 900) 2980 2980 4000
-    ∷ seen (minus 900) 2980 2980 4000
-    ∷ seen (minus 32768) 2980 2980 4000
+    ∷ seen (belowZero 900) 2980 2980 4000
+    ∷ seen (belowZero 32768) 2980 2980 4000
     ∷ seen (pos 100) 3230 2980 4000
     ∷ seen (pos 100) 3330 2980 4000
     ∷ seen (pos 100) 2980 3330 4000
@@ -179,9 +179,9 @@ pub by-themselves
     ∷ (0x1080 ∷ 0x16 ∷ 0x0380 ∷ 1500 ∷ [])
     ∷ (0xD880 ∷ 0x12 ∷ 0x00E5 ∷ 0 ∷ [])
     ∷ [])
-unfolding wordAfter rowOf table sentWord packWord statusWord heatRaised withSwitches withBitIf withBit hasBit wordOf pastOf withEvent
+unfolding wordAfter rowOfCommand table sentWord packWord statusWord heatRaised withSwitches withBitIf withBit hasBit wordOf pastOf withEvent
     sampleVerdict sampleRefusals within cellsFit trimmed eachTo keptCell commandVerdict commandRefusals modeAfter firstMode modeOrder
-    raisedWord blocked bitsOf anyOf raised rowAt rows measure extremesOf bestOf
+    raisedWordAfter blocksAfter bitsOf anyOf raised rowAt rows measure extremesOf bestOf
 by-themselves = refl
 
 -- ---- ten unlike cells: 0x30 to 0x39 send cells 1 to 10, and a command that is not in the table sends 0
@@ -193,7 +193,7 @@ pub ten-unlike
     : words (page-with 10 4200 (limited (pos 6000) (pos 5999) 2 2 0 ∷ never)) (offer (sampled 10 unlike (pos 0) 2980 2980) ∷ [])
     (0x30 ∷ 0x31 ∷ 0x32 ∷ 0x33 ∷ 0x34 ∷ 0x35 ∷ 0x36 ∷ 0x37 ∷ 0x38 ∷ 0x39 ∷ 0x09 ∷ 0x3A ∷ 0x47 ∷ [])
     ≡ (4001 ∷ 4002 ∷ 4003 ∷ 4004 ∷ 4005 ∷ 4006 ∷ 4007 ∷ 4008 ∷ 4009 ∷ 4010 ∷ 40055 ∷ 0 ∷ 0 ∷ [])
-unfolding wordAfter rowOf table sentWord packWord sumTo cellWord pastOf withEvent sampleVerdict sampleRefusals within cellsFit trimmed
+unfolding wordAfter rowOfCommand table sentWord packWord sumTo cellWord pastOf withEvent sampleVerdict sampleRefusals within cellsFit trimmed
     eachTo keptCell
 ten-unlike = refl
 
@@ -204,12 +204,12 @@ ten-cells = 6000 ∷ 6000 ∷ 6000 ∷ 6000 ∷ 6000 ∷ 6000 ∷ 6000 ∷ 6000 
 
 pub largest : words (page-with 10 6000 (limited (pos 6000) (pos 5999) 2 2 0 ∷ never)) (offer (sampled 10 ten-cells (pos 0) 2980 2980) ∷ []) (0x09 ∷ 0x15 ∷ 0x39 ∷ [])
     ≡ (60000 ∷ 60000 ∷ 6000 ∷ [])
-unfolding wordAfter rowOf table sentWord packWord sumTo cellWord hasBit pastOf withEvent sampleVerdict sampleRefusals within cellsFit
-    trimmed eachTo keptCell blocked anyOf raised rowAt rows measure extremesOf bestOf
+unfolding wordAfter rowOfCommand table sentWord packWord sumTo cellWord hasBit pastOf withEvent sampleVerdict sampleRefusals within cellsFit
+    trimmed eachTo keptCell blocksAfter anyOf raised rowAt rows measure extremesOf bestOf
 largest = refl
 
 pub past-the-count : words (page-with 3 6000 (limited (pos 6000) (pos 5999) 2 2 0 ∷ never)) (offer (sampled 3 ten-cells (pos 0) 2980 2980) ∷ []) (0x09 ∷ 0x15 ∷ 0x32 ∷ 0x33 ∷ [])
     ≡ (18000 ∷ 18000 ∷ 6000 ∷ 0 ∷ [])
-unfolding wordAfter rowOf table sentWord packWord sumTo cellWord hasBit pastOf withEvent sampleVerdict sampleRefusals within cellsFit
-    trimmed eachTo keptCell blocked anyOf raised rowAt rows measure extremesOf bestOf
+unfolding wordAfter rowOfCommand table sentWord packWord sumTo cellWord hasBit pastOf withEvent sampleVerdict sampleRefusals within cellsFit
+    trimmed eachTo keptCell blocksAfter anyOf raised rowAt rows measure extremesOf bestOf
 past-the-count = refl

@@ -15,7 +15,7 @@ use Rattle.page_words.specs.Ranges.{wordAt}
 use Rattle.page_judge.specs.Page.{judged}
 use Rattle.page_judge.specs.Accepted.{accepted-inside}
 use Rattle.refusals.specs.declared.Verdict.the-variants.{Accepted}
-use Rattle.guard_raised.specs.Words.{raisedAfter, blocksAny-is, raisedWord-has}
+use Rattle.guard_raised.specs.Words.{raisedAfter, blocksAny-is, raisedWordAfter-has}
 use Rattle.page_settings.specs.declared.Settings.{Settings}
 use Rattle.page_settings.specs.Settings.{rulesOf, settingsOf}
 use Rattle.bleed.specs.Walk.Balance.{bled-few}
@@ -23,8 +23,8 @@ use Rattle.pack_state.specs.declared.Pack.{Pack}
 use Rattle.sample.specs.declared.Sample.{Sample}
 use Rattle.pack.specs.Events.{Event}
 use Rattle.pack_state.specs.Past.{Past, past}
-use Rattle.pack_state.specs.State.{wishesOf, byPage, bledAfter, balanceAfter, stateOf}
-use Rattle.pack.specs.Kept.{pageOf, pastAfter, stateAfter}
+use Rattle.pack_state.specs.State.{wishesAfter, byPage, bledAfter, balanceAfter, stateAfter}
+use Rattle.pack.specs.Kept.{pageOf, pastAfter, packAfter}
 use Rattle.pack_shown.specs.Shown.{switchAfter, switchesWord}
 use Rattle.pack.specs.Calls.{page-accepted}
 use Rattle.pack.specs.After.{after, after-is}
@@ -33,7 +33,7 @@ use Rattle.bus_table.specs.declared.Sends.{Sends}
 use Rattle.bus_table.specs.declared.Sends.the-variants.{Nothing, Cell, Whole}
 use Rattle.bus_table.specs.declared.PackWord.{PackWord}
 use Rattle.bus_table.specs.declared.PackWord.the-variants.{Temperature1, Temperature2, Sum, Current, ChargingCurrent, ChargingVoltage, Status, Mode, Raised, Bled}
-use Rattle.bus_table.specs.Table.{table, rowOf}
+use Rattle.bus_table.specs.Table.{table, rowOfCommand}
 use Rattle.bus_words.specs.Words.{heatRaised, statusWord, statusOf, withSwitches, packWord, sentWord, saidAfter, wordAfter, saidOf}
 
 -- ---- the words
@@ -51,13 +51,13 @@ switch-bits on = bits (on 0) (on 1)
 
 module _ (page : Settings) (p : Past) where
   abbrev state : Pack
-  state = stateOf page p
+  state = stateAfter page p
 
   raised-at : (i : ℕ) → i < protections → saidOf state .raised i ≡ raisedAfter (page .limits) (p .history) i
-  raised-at i inside = ap (λ (w : ℕ). hasBit w i) (raised-is page p) ∙ raisedWord-has (page .limits) (p .history) i inside
+  raised-at i inside = ap (λ (w : ℕ). hasBit w i) (raised-is page p) ∙ raisedWordAfter-has (page .limits) (p .history) i inside
 
   blocks-at : (switch : ℕ) → saidOf state .blocks switch ≡ saidAfter page p .blocks switch
-  unfolding stateOf
+  unfolding stateAfter
   blocks-at switch = blocksAny-is (page .limits) (p .history) switch
 
   on-at : (saidOf state .on 0 ≡ switchAfter page p 0) × (saidOf state .on 1 ≡ switchAfter page p 1)
@@ -66,7 +66,7 @@ module _ (page : Settings) (p : Past) where
       (ap (λ (w : ℕ). hasBit w 0) (switches-is page p) ∙ bits .0, ap (λ (w : ℕ). hasBit w 1) (switches-is page p) ∙ bits .1)
 
   status-is : statusOf (saidOf state) ≡ statusOf (saidAfter page p)
-  unfolding statusWord heatRaised stateOf
+  unfolding statusWord heatRaised stateAfter
   status-is =
       rw (
         raised-at 0 (lit< tt),
@@ -78,7 +78,7 @@ module _ (page : Settings) (p : Past) where
       )
 
   pack-word-is : (w : PackWord) → packWord (saidOf state) w ≡ packWord (saidAfter page p) w
-  unfolding packWord stateOf balanceAfter withSwitches
+  unfolding packWord stateAfter balanceAfter withSwitches
   pack-word-is Temperature1 = refl
   pack-word-is Temperature2 = refl
   pack-word-is Sum = refl
@@ -91,16 +91,16 @@ module _ (page : Settings) (p : Past) where
   pack-word-is Bled = refl
 
   -- The word of each row is the page's and the past's.
-  pub sent-word-is : (row : Sends) → sentWord (saidOf (stateOf page p)) row ≡ sentWord (saidAfter page p) row
-  unfolding sentWord stateOf
+  pub sent-word-is : (row : Sends) → sentWord (saidOf (stateAfter page p)) row ≡ sentWord (saidAfter page p) row
+  unfolding sentWord stateAfter
   sent-word-is Nothing = refl
   sent-word-is (Cell k) = refl
   sent-word-is (Whole w) = pack-word-is w
 
   -- "Never more set bits than K."
   pub bled-word-few : ones (wordAfter page p 0x46) ≤ page .rules .k
-  unfolding wordAfter rowOf table sentWord packWord bledAfter
-  bled-word-few = byPage page bled-few (wishesOf page (p .history))
+  unfolding wordAfter rowOfCommand table sentWord packWord bledAfter
+  bled-word-few = byPage page bled-few (wishesAfter page (p .history))
 
 -- "Values are those of the latest accepted sample; bits 8 and 9 of 0x45 also follow a later switch command": no other word does.
 module _ (page : Settings) (h : List Sample) (c d : ℕ) where
@@ -135,8 +135,8 @@ charging-current-is bytes taken =
 
 module _ (bytes : List ℕ) (es : List Event) where
   -- The word of every command is what document 01 says.
-  pub word-is : (c : ℕ) → sentWord (saidOf (after bytes es)) (rowOf c) ≡ wordAfter (pageOf bytes) (pastAfter bytes es) c
-  unfolding stateAfter wordAfter
+  pub word-is : (c : ℕ) → sentWord (saidOf (after bytes es)) (rowOfCommand c) ≡ wordAfter (pageOf bytes) (pastAfter bytes es) c
+  unfolding packAfter wordAfter
   word-is c =
-      ap (λ (p : Pack). sentWord (saidOf p) (rowOf c)) (after-is bytes es)
-      ∙ sent-word-is (pageOf bytes) (pastAfter bytes es) (rowOf c)
+      ap (λ (p : Pack). sentWord (saidOf p) (rowOfCommand c)) (after-is bytes es)
+      ∙ sent-word-is (pageOf bytes) (pastAfter bytes es) (rowOfCommand c)

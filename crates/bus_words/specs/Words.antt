@@ -15,20 +15,20 @@ use Rattle.laws.specs.Bits.{hasBit, withBit, withBitIf}
 use Rattle.units.specs.declared.MilliVolts.{MilliVolts}
 use Rattle.units.specs.Signed.{wordOf}
 use Rattle.sample.specs.declared.Sample.{Sample}
-use Rattle.units.specs.Cells.{lookedAt}
+use Rattle.units.specs.Cells.{tenAtMost}
 use Rattle.sample.specs.Cells.{noVolts}
-use Rattle.guard_raised.specs.Words.{raisedAfter, raisedWord, raisedBits, blocked, blocksAny}
+use Rattle.guard_raised.specs.Words.{raisedAfter, raisedWordAfter, raisedWord, blocksAfter, blocksAny}
 use Rattle.bleed_wants.specs.Wants.{isCharging}
 use Rattle.page_settings.specs.declared.Settings.{Settings}
 use Rattle.pack_state.specs.declared.Pack.{Pack}
 use Rattle.pack_state.specs.Past.{Past}
-use Rattle.pack_state.specs.State.{latestOf, bledAfter}
+use Rattle.pack_state.specs.State.{latestAfter, bledAfter}
 use Rattle.pack_shown.specs.Shown.{switchAfter, switchesOf, modeAfter, modeOf}
 use Rattle.bus_table.specs.declared.Sends.{Sends}
 use Rattle.bus_table.specs.declared.Sends.the-variants.{Nothing, Cell, Whole}
 use Rattle.bus_table.specs.declared.PackWord.{PackWord}
 use Rattle.bus_table.specs.declared.PackWord.the-variants.{Temperature1, Temperature2, Sum, Current, ChargingCurrent, ChargingVoltage, Status, Mode, Raised, Bled}
-use Rattle.bus_table.specs.Table.{rowOf}
+use Rattle.bus_table.specs.Table.{rowOfCommand}
 
 -- What the words are read from.
 pub record Said : Type 0 where
@@ -43,7 +43,7 @@ pub record Said : Type 0 where
   pub bled : ℕ
   -- whether protection p is raised, their word, and whether a raised one blocks a switch: 0 is charge, 1 is discharge
   pub raised : ℕ → Bool
-  pub raisedBits : ℕ
+  pub raisedWord : ℕ
   pub blocks : ℕ → Bool
   -- whether a switch is on
   pub on : ℕ → Bool
@@ -57,7 +57,7 @@ sumTo cells (suc k) = sumTo cells k + getD cells k noVolts .0
 
 -- "The sum of the cells."
 abbrev pub sumWord : Sample → ℕ
-sumWord s = sumTo (s .cells) (lookedAt (s .count))
+sumWord s = sumTo (s .cells) (tenAtMost (s .count))
 
 -- Cell k; a number that no cell has reads as 0.
 unfoldable pub cellWord : List MilliVolts → ℕ → ℕ
@@ -102,7 +102,7 @@ module _ (x : Said) where
   statusOf = statusWord (x .raised) (x .blocks) (isCharging (x .detection) (x .latest .current))
 
   abbrev pub raisedAndSwitches : ℕ
-  raisedAndSwitches = withSwitches (x .raisedBits) (x .on)
+  raisedAndSwitches = withSwitches (x .raisedWord) (x .on)
 
   -- "Both 0 if a raised protection blocks charge."
   abbrev unlessBlocked : ℕ → ℕ
@@ -137,18 +137,18 @@ saidAfter page p =
       detection = page .rules .detection;
       voltage = page .rules .voltage;
       current = page .rules .current;
-      latest = latestOf (p .history);
+      latest = latestAfter (p .history);
       mode = modeAfter page (p .history);
       bled = bledAfter page (p .history);
       raised = raisedAfter (page .limits) (p .history);
-      raisedBits = raisedWord (page .limits) (p .history);
-      blocks = blocked (page .limits) (p .history);
+      raisedWord = raisedWordAfter (page .limits) (p .history);
+      blocks = blocksAfter (page .limits) (p .history);
       on = switchAfter page p;
     }
 
 -- The word of a command, as document 01 says it of the page and the past.
 unfoldable pub wordAfter : Settings → Past → ℕ → ℕ
-wordAfter page p c = sentWord (saidAfter page p) (rowOf c)
+wordAfter page p c = sentWord (saidAfter page p) (rowOfCommand c)
 
 -- ---- from the state
 
@@ -162,8 +162,8 @@ saidOf p =
       latest = p .latest;
       mode = modeOf p;
       bled = p .balance .bled;
-      raised = hasBit (raisedBits (p .protections));
-      raisedBits = raisedBits (p .protections);
+      raised = hasBit (raisedWord (p .protections));
+      raisedWord = raisedWord (p .protections);
       blocks = λ switch. blocksAny switch (p .protections);
       on = hasBit (switchesOf p);
     }

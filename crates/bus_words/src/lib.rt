@@ -3,7 +3,7 @@ ghost use mathlib.Core.Path.{_≡_};
 ghost use mathlib.Core.Bool.{cond};
 ghost use Prim.Native.Nat.{_*_, _≤_};
 ghost use Rattle.laws.specs.Bits.{hasBit};
-ghost use Rattle.units.specs.Cells.{lookedAt};
+ghost use Rattle.units.specs.Cells.{tenAtMost};
 ghost use Rattle.guard_raised.specs.Words.{blocksAny};
 ghost use Rattle.pack.specs.Kept.{Kept};
 ghost use Rattle.bus_words.specs.Words.{sumTo, sumWord, cellWord, heatRaised, packWord, sentWord, saidOf, statusOf, raisedAndSwitches, Bounded};
@@ -21,14 +21,14 @@ use page_settings::Rules;
 use sample::Sample;
 use units::CellNo;
 use units::MilliVolts;
-use units::looked_at;
+use units::ten_at_most;
 use units::word_of;
 
 // The sum of the first `count` cells.
 fn sum_to(cells: [MilliVolts; 10], count: u8) -> u32
-    ensures { λ r. ⌜ r ≡ sumTo cells (lookedAt count) ⌝ }
+    ensures { λ r. ⌜ r ≡ sumTo cells (tenAtMost count) ⌝ }
 {
-    let n = looked_at(count);
+    let n = ten_at_most(count);
     let mut sum: u32 = 0;
     let mut i: usize = 0;
     while i < n {

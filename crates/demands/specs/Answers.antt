@@ -19,7 +19,7 @@ use Rattle.bus.specs.declared.answer.Replied.the-variants as reply
 use Rattle.log_entries.specs.declared.Kind.{Kind}
 use Rattle.log_entries.specs.declared.Kind.the-variants.{Offer, Command, Malformed}
 use Rattle.log_entries.specs.declared.Entry.{Entry}
-use Rattle.log_entries.specs.Entry.{entryOf}
+use Rattle.log_entries.specs.Entry.{readEntry}
 use Rattle.log_answers.specs.declared.Told.the-variants as told
 use Rattle.log_answers.specs.Tell.{toldOf, answeredAs, outcomeOf, tell}
 
@@ -80,7 +80,7 @@ module _ (p : Pack) (c : ℕ) where
 -- A refused line leaves the pack as it was.
 pub refused-line-untouched : (p : Pack) (line : List ℕ) (k : ℕ) → tell p line .told ≡ told.Refused k → tell p line .pack ≡ p
 unfolding tell outcomeOf
-refused-line-untouched p line k = by-kind (entryOf line .kind) (entryOf line)
+refused-line-untouched p line k = by-kind (readEntry line .kind) (readEntry line)
   where
     told-refused : (v : Verdict) (q : Pack) → toldOf v q ≡ told.Refused k → ((j w : ℕ) → v ≡ Refused j w → q ≡ p) → q ≡ p
     told-refused Accepted q e kept = absurd (let z : true ≡ false = cc in true≢false z)

@@ -17,15 +17,15 @@ use Rattle.page_settings.specs.declared.Settings.{Settings}
 use Rattle.page_settings.specs.Good.{Good}
 use Rattle.bleed.specs.Walk.Walk.{has}
 use Rattle.bleed.specs.Walk.History.{wantsCell}
-use Rattle.bleed_wants.specs.Word.{inWord}
+use Rattle.bleed_wants.specs.Word.{holdsCell}
 use Rattle.bleed.specs.Walk.Demand.{fair-anywhere, never-over-R}
-use Rattle.bleed.specs.Walk.Balance.{bledWord, bledNow, bled-bit, bled-few, bled-apart}
-use Rattle.pack_state.specs.State.{byPage, wishesOf, bledAfter, bledsAfter}
+use Rattle.bleed.specs.Walk.Balance.{bledWordAfter, bledNowAfter, bled-bit, bled-few, bled-apart}
+use Rattle.pack_state.specs.State.{byPage, wishesAfter, bledAfter, bledsAfter}
 
 -- The bled words of a history, one for each accepted sample: what 0x46 showed after it.
-abbrev pub bledWords : Settings → List Sample → List ℕ
-bledWords page [] = []
-bledWords page (s ∷ h) = bledAfter page (s ∷ h) ∷ bledWords page h
+abbrev pub bledWordsAfter : Settings → List Sample → List ℕ
+bledWordsAfter page [] = []
+bledWordsAfter page (s ∷ h) = bledAfter page (s ∷ h) ∷ bledWordsAfter page h
 
 -- ---- two lists read alike
 
@@ -68,54 +68,54 @@ module _ (page : Settings) (good : Good page) where
   ten = good .n .1
 
   -- Cell k is in the bled word exactly if it was bled.
-  word-has : (k : ℕ) → 1 ≤ k → (ws : List (ℕ → Bool)) → inWord (byPage page bledWord ws) k ≡ has k (byPage page bledNow ws)
-  unfolding inWord
+  word-has : (k : ℕ) → 1 ≤ k → (ws : List (ℕ → Bool)) → holdsCell (byPage page bledWordAfter ws) k ≡ has k (byPage page bledNowAfter ws)
+  unfolding holdsCell
   word-has k first ws =
       let e : suc (k - 1) ≡ k = omega arith in
-      rw (lt-ltb 0 k first) (byPage page bled-bit some ten ws (k - 1) ∙ ap (λ (i : ℕ). has i (byPage page bledNow ws)) e)
+      rw (lt-ltb 0 k first) (byPage page bled-bit some ten ws (k - 1) ∙ ap (λ (i : ℕ). has i (byPage page bledNowAfter ws)) e)
 
-  words-alike : (k : ℕ) → 1 ≤ k → (h : List Sample) → Alike (λ w. inWord w k) (has k) (bledWords page h) (bledsAfter page h)
-  unfolding bledAfter wishesOf
+  words-alike : (k : ℕ) → 1 ≤ k → (h : List Sample) → Alike (λ w. holdsCell w k) (has k) (bledWordsAfter page h) (bledsAfter page h)
+  unfolding bledAfter wishesAfter
   words-alike k first [] = tt
-  words-alike k first (s ∷ h) = (word-has k first (wishesOf page (s ∷ h)), words-alike k first h)
+  words-alike k first (s ∷ h) = (word-has k first (wishesAfter page (s ∷ h)), words-alike k first h)
 
   later-alike : (k : ℕ) → 1 ≤ k → (j : ℕ) (h : List Sample)
-      → Alike (λ w. inWord w k) (has k) (drop j (bledWords page h)) (drop j (bledsAfter page h))
-  later-alike k first j h = alike-drop (λ w. inWord w k) (has k) j (bledWords page h) (bledsAfter page h) (words-alike k first h)
+      → Alike (λ w. holdsCell w k) (has k) (drop j (bledWordsAfter page h)) (drop j (bledsAfter page h))
+  later-alike k first j h = alike-drop (λ w. holdsCell w k) (has k) j (bledWordsAfter page h) (bledsAfter page h) (words-alike k first h)
 
   -- At how many of m samples, j samples before the latest, cell k is in the word, and at how many it was bled.
   pub words-among : (k : ℕ) → 1 ≤ k → (m j : ℕ) (h : List Sample)
-      → among m (λ w. inWord w k) (drop j (bledWords page h)) ≡ among m (has k) (drop j (bledsAfter page h))
+      → among m (λ w. holdsCell w k) (drop j (bledWordsAfter page h)) ≡ among m (has k) (drop j (bledsAfter page h))
   words-among k first m j h =
-      alike-among (λ w. inWord w k) (has k) m (drop j (bledWords page h)) (drop j (bledsAfter page h)) (later-alike k first j h)
+      alike-among (λ w. holdsCell w k) (has k) m (drop j (bledWordsAfter page h)) (drop j (bledsAfter page h)) (later-alike k first j h)
 
   -- Cell k wants at n + 1 accepted samples in a row, j samples before the latest: it is bled in at least one of them.
   pub words-fair : (k : ℕ) → 1 ≤ k → k ≤ page .rules .n → (j : ℕ) (h : List Sample)
-      → lastAll (suc (page .rules .n)) (wantsCell k) (drop j (wishesOf page h)) ≡ true
-      → 0 < among (suc (page .rules .n)) (λ w. inWord w k) (drop j (bledWords page h))
+      → lastAll (suc (page .rules .n)) (wantsCell k) (drop j (wishesAfter page h)) ≡ true
+      → 0 < among (suc (page .rules .n)) (λ w. holdsCell w k) (drop j (bledWordsAfter page h))
   words-fair k first last j h wanting =
       rw (words-among k first (suc (page .rules .n)) j h)
-      (byPage page fair-anywhere (good .k .0) (good .r .0) k first last j (wishesOf page h) wanting)
+      (byPage page fair-anywhere (good .k .0) (good .r .0) k first last j (wishesAfter page h) wanting)
 
   -- No cell is bled at more than R accepted samples in a row.
   pub words-run : (k : ℕ) → 1 ≤ k → (j : ℕ) (h : List Sample)
-      → lastAll (suc (page .rules .r)) (λ w. inWord w k) (drop j (bledWords page h)) ≡ false
+      → lastAll (suc (page .rules .r)) (λ w. holdsCell w k) (drop j (bledWordsAfter page h)) ≡ false
   words-run k first j h =
-      alike-last (λ w. inWord w k) (has k) (suc (page .rules .r)) (drop j (bledWords page h)) (drop j (bledsAfter page h))
+      alike-last (λ w. holdsCell w k) (has k) (suc (page .rules .r)) (drop j (bledWordsAfter page h)) (drop j (bledsAfter page h))
       (later-alike k first j h)
-      ∙ byPage page never-over-R k j (wishesOf page h)
+      ∙ byPage page never-over-R k j (wishesAfter page h)
 
   -- Never are two neighbours bled at once: bits i and i + 1 stand for cells i + 1 and i + 2.
-  pub words-apart : (i j : ℕ) (h : List Sample) → hasBit (getD (bledWords page h) j 0) i ≡ true
-      → hasBit (getD (bledWords page h) j 0) (suc i) ≡ true → ⊥
+  pub words-apart : (i j : ℕ) (h : List Sample) → hasBit (getD (bledWordsAfter page h) j 0) i ≡ true
+      → hasBit (getD (bledWordsAfter page h) j 0) (suc i) ≡ true → ⊥
   unfolding bledAfter
   words-apart i j [] a b = clash a (has-zero i)
-  words-apart i zero (s ∷ h) a b = byPage page bled-apart some ten (wishesOf page (s ∷ h)) i a b
+  words-apart i zero (s ∷ h) a b = byPage page bled-apart some ten (wishesAfter page (s ∷ h)) i a b
   words-apart i (suc j) (s ∷ h) a b = words-apart i j h a b
 
 -- Nor more than K cells: of any page.
-pub words-few : (page : Settings) (j : ℕ) (h : List Sample) → ones (getD (bledWords page h) j 0) ≤ page .rules .k
+pub words-few : (page : Settings) (j : ℕ) (h : List Sample) → ones (getD (bledWordsAfter page h) j 0) ≤ page .rules .k
 unfolding bledAfter ones onesIn
 words-few page j [] = omega arith
-words-few page zero (s ∷ h) = byPage page bled-few (wishesOf page (s ∷ h))
+words-few page zero (s ∷ h) = byPage page bled-few (wishesAfter page (s ∷ h))
 words-few page (suc j) (s ∷ h) = words-few page j h

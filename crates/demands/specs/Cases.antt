@@ -11,7 +11,7 @@ use Rattle.units.specs.Levels.{level}
 use Rattle.page_judge.specs.Worked.{Change, workedPage, pageWith, put}
 use Rattle.refusals.specs.Answers.{answerOf}
 use Rattle.sample.specs.Cases as sample
-use Rattle.sample.specs.Cases.{minus}
+use Rattle.sample.specs.Cases.{belowZero}
 use Rattle.protections.specs.declared.Limits.{Limits}
 use Rattle.refusals.specs.declared.Verdict.the-variants.{Accepted}
 use Rattle.page_settings.specs.declared.Settings.{Settings}
@@ -31,11 +31,11 @@ use Rattle.text_fields.specs.Fields.{fieldsOf, lineOf}
 use Rattle.text_fields.specs.Finding.{lacks}
 use Rattle.text_numbers.specs.Numbers as text
 use Rattle.text_numbers.specs.Numbers.{digitsTo, numberTo}
-use Rattle.guard_raised.specs.Words.{raisedWord, blocked}
-use Rattle.bleed.specs.Walk.Balance.{bledWord}
+use Rattle.guard_raised.specs.Words.{raisedWordAfter, blocksAfter}
+use Rattle.bleed.specs.Walk.Balance.{bledWordAfter}
 use Rattle.pack_state.specs.State.{bledAfter}
 use Rattle.pack_shown.specs.Shown.{decisionAfter, modeAfter}
-use Rattle.log_entries.specs.Entry.{commandOf, cellsFrom, secondOf, firstOf, sampleOf, fieldsSay, entryOf}
+use Rattle.log_entries.specs.Entry.{readCommand, cellsFrom, secondOf, firstOf, readSample, fieldsSay, readEntry}
 use Rattle.log_texts.specs.Texts.{decisionText, refusedText}
 use Rattle.demands.specs.History.{story}
 use Rattle.demands.specs.Shown.{shownWords}
@@ -168,8 +168,8 @@ reporting =
           reports (pos 4250) (pos 4150)
           ∷ reports (pos 2500) (pos 2600)
           ∷ reports (pos 3000) (pos 2500)
-          ∷ reports (minus 5000) (minus 4000)
-          ∷ reports (minus 20000) (minus 100)
+          ∷ reports (belowZero 5000) (belowZero 4000)
+          ∷ reports (belowZero 20000) (belowZero 100)
           ∷ reports (pos 3180) (pos 3130)
           ∷ reports (pos 3330) (pos 3280)
           ∷ reports (pos 3530) (pos 3430)
@@ -190,8 +190,8 @@ modeCases =
     ∷ sampled (pos 500) 3330 3530 (4000 ∷ 4020 ∷ [])
     ∷ sampled (pos 500) 3330 3530 (4000 ∷ 4250 ∷ [])
     ∷ sampled (pos 3000) 3330 3530 (4000 ∷ 4250 ∷ [])
-    ∷ sampled (minus 5000) 3330 3530 (4000 ∷ 4250 ∷ [])
-    ∷ sampled (minus 20000) 3330 3530 (4000 ∷ 4250 ∷ [])
+    ∷ sampled (belowZero 5000) 3330 3530 (4000 ∷ 4250 ∷ [])
+    ∷ sampled (belowZero 20000) 3330 3530 (4000 ∷ 4250 ∷ [])
     ∷ charged (2500 ∷ 4020 ∷ [])
     ∷ charged (4000 ∷ 4020 ∷ [])
     ∷ []))
@@ -232,8 +232,8 @@ pub lines-said
     ∷ quoted "S\t500"
     ∷ [])
     ≡ quoted "0\t0\t0\t0\t0\n1\t0\t3\t2\t3\n2\t0\t3\t1\t3\n3\t1\t2\t0\t21\nrefused\t9\nrefused\t17\n"
-unfolding computed decisionAfter modeAfter raisedWord blocked bledAfter bledWord story decisionText refusedText decimal fieldsOf lineOf lacks
-    digitsTo numberTo text.signedOf entryOf commandOf cellsFrom secondOf firstOf sampleOf fieldsSay
+unfolding computed decisionAfter modeAfter raisedWordAfter blocksAfter bledAfter bledWordAfter story decisionText refusedText decimal fieldsOf lineOf lacks
+    digitsTo numberTo text.readSigned readEntry readCommand cellsFrom secondOf firstOf readSample fieldsSay
 lines-said = refl
 
 -- ---- the settings of these cases are those of accepted pages

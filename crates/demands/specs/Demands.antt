@@ -24,8 +24,8 @@ use Rattle.page_settings.specs.Settings.{limitsFrom}
 use Rattle.page_settings.specs.Good.{Good, accepted-good}
 use Rattle.sample.specs.declared.Sample.{Sample}
 use Rattle.sample.specs.Measure.{trips, qualifies}
-use Rattle.guard_raised.specs.Words.{raisedWord}
-use Rattle.bleed_wants.specs.Word.{inWord}
+use Rattle.guard_raised.specs.Words.{raisedWordAfter}
+use Rattle.bleed_wants.specs.Word.{holdsCell}
 use Rattle.bleed.specs.Walk.History.{wantsCell}
 use Rattle.pack_refusals.specs.Samples.{sampleRefusals, commandRefusals}
 use Rattle.pack_state.specs.declared.Pack.{Pack}
@@ -33,18 +33,18 @@ use Rattle.pack_state.specs.State.{bledAfter}
 use Rattle.pack_state.specs.Steps.{wishes-length}
 use Rattle.pack.specs.Events.{Event, offer, command}
 use Rattle.pack.specs.Answers.{offered, commanded}
-use Rattle.pack.specs.Kept.{pageOf, pastAfter, stateAfter, afterLoad}
+use Rattle.pack.specs.Kept.{pageOf, pastAfter, packAfter, afterLoad}
 use Rattle.pack.specs.Calls.{page-accepted}
 use Rattle.pack.specs.After.{after, after-is}
 use Rattle.pack_shown.specs.declared.Decision.{Decision}
 use Rattle.pack_shown.specs.Shown.{switchAfter, switchesWord, decisionAfter}
-use Rattle.bus_table.specs.Table.{rowOf}
+use Rattle.bus_table.specs.Table.{rowOfCommand}
 use Rattle.bus_words.specs.Words.{sentWord, saidOf, wordAfter}
 use Rattle.bus_words.specs.Demands.{word-is}
 use Rattle.bus.specs.declared.answer.Replied.the-variants as reply
-use Rattle.bus.specs.Replies.{replyRefusals, answerTo, repliedAfter, bufferOf, bufferAfter}
+use Rattle.bus.specs.Replies.{replyRefusals, answerTo, answerAfter, bufferOf, bufferAfter}
 use Rattle.bus.specs.Demands as bus
-use Rattle.log_entries.specs.Entry.{entryOf}
+use Rattle.log_entries.specs.Entry.{readEntry}
 use Rattle.log_lines.specs.Lines.{linesOf}
 use Rattle.log_answers.specs.declared.Told.the-variants as told
 use Rattle.log_answers.specs.Says.{says, line-told}
@@ -54,7 +54,7 @@ use Rattle.log_texts.specs.Texts.{headerText}
 use Rattle.log.specs.Replay.{replayed}
 use Rattle.demands.specs.Answers as answers
 use Rattle.demands.specs.Answers.{IsAnswered, IsReplied, is-answered, is-replied}
-use Rattle.demands.specs.BledWords.{bledWords, words-fair, words-run, words-apart, words-few}
+use Rattle.demands.specs.BledWords.{bledWordsAfter, words-fair, words-run, words-apart, words-few}
 use Rattle.demands.specs.History.{story, replay-says}
 use Rattle.demands.specs.Shown.{shown, shownWords, samples, wanted, MayBeOn, word-1, word-2, word-3}
 use Rattle.demands.specs.Shown.{shown-is, shown-balance, shown-words, shown-each, raise-when, release-when, on-exactly, raised-stops}
@@ -126,7 +126,7 @@ unfolding answerTo
 demand-1-reply-refused p = bus.refused-exactly (p .rules .n) (p .sampled)
 
 -- A line of the log: 17 exactly if it is malformed, in any pack.
-pub demand-1-line-malformed : (p : Pack) (line : List ℕ) → isSeventeen (tell p line .told) ≡ isMalformed (entryOf line .kind)
+pub demand-1-line-malformed : (p : Pack) (line : List ℕ) → isSeventeen (tell p line .told) ≡ isMalformed (readEntry line .kind)
 demand-1-line-malformed = seventeen-exactly
 
 -- ---- "It leaves the pack state and every lent buffer untouched."
@@ -159,7 +159,7 @@ module _ (bytes : List ℕ) (es : List Event) where
   -- since its load, of accepted samples and switch commands."
 
   -- The state, every field of it.
-  pub demand-2-state : after bytes es ≡ stateAfter bytes es
+  pub demand-2-state : after bytes es ≡ packAfter bytes es
   demand-2-state = after-is bytes es
 
   -- The five fields of a decision: tick, raised, fets, balance and mode.
@@ -167,7 +167,7 @@ module _ (bytes : List ℕ) (es : List Event) where
   demand-2-decision = shown-is bytes es
 
   -- Protections,
-  pub demand-2-protections : shown bytes es .raised ≡ raisedWord (pageOf bytes .limits) (samples bytes es)
+  pub demand-2-protections : shown bytes es .raised ≡ raisedWordAfter (pageOf bytes .limits) (samples bytes es)
   unfolding decisionAfter
   demand-2-protections = ap (λ (d : Decision). d .raised) (shown-is bytes es)
 
@@ -185,11 +185,11 @@ module _ (bytes : List ℕ) (es : List Event) where
   demand-2-raised-stops = raised-stops bytes es
 
   -- Status words: the word of every command on the bus, battery status (0x16), mode (0x41) and 0x45 among them.
-  pub demand-2-word : (c : ℕ) → sentWord (saidOf (after bytes es)) (rowOf c) ≡ wordAfter (pageOf bytes) (pastAfter bytes es) c
+  pub demand-2-word : (c : ℕ) → sentWord (saidOf (after bytes es)) (rowOfCommand c) ≡ wordAfter (pageOf bytes) (pastAfter bytes es) c
   demand-2-word = word-is bytes es
 
   -- Bus replies: the answer to every command, with a buffer of any length,
-  pub demand-2-reply : (c room : ℕ) → answerTo (after bytes es) c room ≡ repliedAfter (pageOf bytes) (pastAfter bytes es) c room
+  pub demand-2-reply : (c room : ℕ) → answerTo (after bytes es) c room ≡ answerAfter (pageOf bytes) (pastAfter bytes es) c room
   demand-2-reply = bus.answer-is bytes es
 
   -- and what then stands in the buffer.
@@ -241,7 +241,7 @@ abbrev pub Suffice : ℕ → ℕ → Type 0
 Suffice n m =
     (bytes : List ℕ) → judged bytes ≡ Accepted → wordAt bytes 1 ≡ n → (es : List Event) (k : ℕ) → 1 ≤ k → k ≤ n → (j : ℕ)
     → lastAll m (wantsCell k) (drop j (wanted bytes es)) ≡ true
-    → 0 < among m (λ w. inWord w k) (drop j (shownWords bytes es))
+    → 0 < among m (λ w. holdsCell w k) (drop j (shownWords bytes es))
 
 -- ---- "From a fresh load, over any history, a cell that wants bleeding at n + 1 consecutive accepted samples, n being the number of
 -- cells, is bled in at least one of them, whatever the other cells do."
@@ -261,8 +261,8 @@ more-than-n n m more bytes taken cells es k first last j wanting =
     let few : suc (pageOf bytes .rules .n) ≤ m = omega arith in
     let those = lastAll-le (suc (pageOf bytes .rules .n)) m (wantsCell k) (drop j (wanted bytes es)) few wanting in
     let some = words-fair (pageOf bytes) (page-good bytes taken) k first (omega arith) j (samples bytes es) those in
-    let words = drop j (bledWords (pageOf bytes) (samples bytes es)) in
-    rw (shown-words bytes es) (lt-of-lt-of-le some (among-le (suc (pageOf bytes .rules .n)) m (λ w. inWord w k) words few))
+    let words = drop j (bledWordsAfter (pageOf bytes) (samples bytes es)) in
+    rw (shown-words bytes es) (lt-of-lt-of-le some (among-le (suc (pageOf bytes .rules .n)) m (λ w. holdsCell w k) words few))
 
 pub demand-3-wait : (n : ℕ) → Suffice n (n + 1)
 demand-3-wait n = more-than-n n (n + 1) (omega arith)
@@ -271,7 +271,7 @@ demand-3-wait n = more-than-n n (n + 1) (omega arith)
 
 -- No R + 1 balances shown one after the other have its bit. R is word 3 of the page.
 pub demand-3-run : (bytes : List ℕ) → judged bytes ≡ Accepted → (es : List Event) (k : ℕ) → 1 ≤ k → (j : ℕ)
-    → lastAll (suc (wordAt bytes 3)) (λ w. inWord w k) (drop j (shownWords bytes es)) ≡ false
+    → lastAll (suc (wordAt bytes 3)) (λ w. holdsCell w k) (drop j (shownWords bytes es)) ≡ false
 demand-3-run bytes taken es k first j =
     rw (shown-words bytes es, ← word-3 bytes taken) (words-run (pageOf bytes) (page-good bytes taken) k first j (samples bytes es))
 
@@ -296,7 +296,7 @@ demand-3-most bytes taken es j = rw (shown-words bytes es, ← word-2 bytes take
 pub demand-3-n-wont-do : (n : ℕ) → 3 ≤ n → n ≤ 10 → Suffice n n → ⊥
 demand-3-n-wont-do n least most enough =
     let t = too-few n least most in
-    let some : 0 < among n (λ w. inWord w 1) (shownWords (pageFor n) (waiting n)) =
+    let some : 0 < among n (λ w. holdsCell w 1) (shownWords (pageFor n) (waiting n)) =
     enough (pageFor n) (t .page) (t .cells) (waiting n) 1 (omega arith) (omega arith) 0 (t .wanting) in
     let none = t .bled in
     omega arith

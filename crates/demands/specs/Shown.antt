@@ -24,7 +24,7 @@ use Rattle.sample.specs.Measure.{trips, qualifies}
 use Rattle.protections.specs.Limits.{limitsAt}
 use Rattle.guard.specs.Steps.{raised, raised-when, released-when}
 use Rattle.laws.specs.Words.{bitsOf, anyOf, any-yes}
-use Rattle.guard_raised.specs.Words.{raisedAfter, raisedWord, someRaised, blocked, raisedWord-has, someRaised-word}
+use Rattle.guard_raised.specs.Words.{raisedAfter, raisedWordAfter, anyRaisedAfter, blocksAfter, raisedWordAfter-has, anyRaisedAfter-word}
 use Rattle.page_settings.specs.declared.Settings.{Settings}
 use Rattle.page_settings.specs.Settings.{limitsFrom, settingsOf, rulesOf, noSettings, loadedWith, loadedOf}
 use Rattle.page_settings.specs.Good.{limits-at}
@@ -32,25 +32,25 @@ use Rattle.bleed_wants.specs.Wants.{isCharging, wants}
 use Rattle.bleed_wants.specs.Steps.{wishes}
 use Rattle.bleed.specs.Walk.Walk.{order}
 use Rattle.bleed.specs.Walk.WalkLaws.{walk-none}
-use Rattle.bleed.specs.Walk.Word.{wordOf}
+use Rattle.bleed.specs.Walk.Word.{cellsWord}
 use Rattle.bleed.specs.Walk.History.{resting, startCell}
-use Rattle.bleed.specs.Walk.Balance.{bledWord}
+use Rattle.bleed.specs.Walk.Balance.{bledWordAfter}
 use Rattle.pack_refusals.specs.Samples.{sampleVerdict, commandVerdict, trimmed}
 use Rattle.pack_refusals.specs.SampleLaws.{sample-none}
 use Rattle.pack_state.specs.declared.Pack.{Pack}
 use Rattle.pack_state.specs.Past.{past}
-use Rattle.pack_state.specs.State.{wishAt, wishesOf, bledsAfter, bledAfter, anySample}
+use Rattle.pack_state.specs.State.{wishAt, wishesAfter, bledsAfter, bledAfter, anySample}
 use Rattle.pack.specs.declared.Answered.{Answered}
 use Rattle.pack.specs.Events.{Event, offer, command, accepts, withEvent, pastOf}
 use Rattle.pack.specs.Answers.{offered}
-use Rattle.pack.specs.Kept.{pageOf, pastAfter, stateAfter}
+use Rattle.pack.specs.Kept.{pageOf, pastAfter, packAfter}
 use Rattle.pack.specs.Calls.{page-accepted, offered-is}
 use Rattle.pack.specs.After.{after, after-is}
 use Rattle.pack_shown.specs.declared.Decision.{Decision}
 use Rattle.pack_shown.specs.Shown.{switchAfter, switchesWord, decisionAfter, decisionOf}
 use Rattle.pack_shown.specs.Decided.{decision-is}
 use Rattle.bus_words.specs.Demands.{switch-bits}
-use Rattle.demands.specs.BledWords.{bledWords}
+use Rattle.demands.specs.BledWords.{bledWordsAfter}
 
 -- ---- what is shown
 
@@ -74,12 +74,12 @@ module _ (bytes : List ℕ) where
   samples es = pastAfter bytes es .history
 
   abbrev pub wanted : List Event → List (ℕ → Bool)
-  wanted es = wishesOf (pageOf bytes) (samples es)
+  wanted es = wishesAfter (pageOf bytes) (samples es)
 
 -- ---- each field is document 01's
 
 pub shown-is : (bytes : List ℕ) (es : List Event) → shown bytes es ≡ decisionAfter (pageOf bytes) (pastAfter bytes es)
-unfolding stateAfter
+unfolding packAfter
 shown-is bytes es = ap decisionOf (after-is bytes es) ∙ decision-is (pageOf bytes) (pastAfter bytes es)
 
 pub shown-balance : (bytes : List ℕ) (es : List Event) → shown bytes es .balance ≡ bledAfter (pageOf bytes) (samples bytes es)
@@ -114,7 +114,7 @@ samples-command bytes es c = either (accepts (commandVerdict c))
     either false = refl
 
 -- The balance fields shown at the accepted samples are the bled words of the history.
-pub shown-words : (bytes : List ℕ) (es : List Event) → shownWords bytes es ≡ bledWords (pageOf bytes) (samples bytes es)
+pub shown-words : (bytes : List ℕ) (es : List Event) → shownWords bytes es ≡ bledWordsAfter (pageOf bytes) (samples bytes es)
 unfolding pastOf
 shown-words bytes [] = refl
 shown-words bytes (offer s ∷ es) =
@@ -123,11 +123,11 @@ shown-words bytes (offer s ∷ es) =
     let e = behind bytes es s true t in
     rw (verdict-is bytes es s, t)
     (ap₂ (λ (w : ℕ) (l : List ℕ). w ∷ l) (shown-balance bytes (offer s ∷ es) ∙ ap (bledAfter (pageOf bytes)) e) (shown-words bytes es)
-    ∙ sym (ap (bledWords (pageOf bytes)) e)))
-    (λ t. rw (verdict-is bytes es s, t) (shown-words bytes es ∙ sym (ap (bledWords (pageOf bytes)) (behind bytes es s false t))))
-shown-words bytes (command c ∷ es) = shown-words bytes es ∙ sym (ap (bledWords (pageOf bytes)) (samples-command bytes es c))
+    ∙ sym (ap (bledWordsAfter (pageOf bytes)) e)))
+    (λ t. rw (verdict-is bytes es s, t) (shown-words bytes es ∙ sym (ap (bledWordsAfter (pageOf bytes)) (behind bytes es s false t))))
+shown-words bytes (command c ∷ es) = shown-words bytes es ∙ sym (ap (bledWordsAfter (pageOf bytes)) (samples-command bytes es c))
 
-words-each : (page : Settings) (h : List Sample) → length (bledWords page h) ≡ length h
+words-each : (page : Settings) (h : List Sample) → length (bledWordsAfter page h) ≡ length h
 words-each page [] = refl
 words-each page (s ∷ h) = ap suc (words-each page h)
 
@@ -206,11 +206,11 @@ pub raised-bit : (bytes : List ℕ) (es : List Event) (p : ℕ) → p < protecti
     → hasBit (shown bytes es .raised) p ≡ raised (rowAt p) (limitsAt (pageOf bytes .limits) p) (samples bytes es)
 unfolding decisionAfter
 raised-bit bytes es p inside =
-    ap (λ (d : Decision). hasBit (d .raised) p) (shown-is bytes es) ∙ raisedWord-has (pageOf bytes .limits) (samples bytes es) p inside
+    ap (λ (d : Decision). hasBit (d .raised) p) (shown-is bytes es) ∙ raisedWordAfter-has (pageOf bytes .limits) (samples bytes es) p inside
 
 -- At the load nothing is raised.
 pub clear-at-load : (bytes : List ℕ) → shown bytes [] .raised ≡ 0
-unfolding decisionAfter pastOf raisedWord raised bitsOf withBitIf
+unfolding decisionAfter pastOf raisedWordAfter raised bitsOf withBitIf
 clear-at-load bytes = ap (λ (d : Decision). d .raised) (shown-is bytes [])
 
 -- A command raises and releases nothing.
@@ -218,7 +218,7 @@ pub command-raises-none : (bytes : List ℕ) (es : List Event) (c : ℕ) → sho
 unfolding decisionAfter
 command-raises-none bytes es c =
     ap (λ (d : Decision). d .raised) (shown-is bytes (command c ∷ es))
-    ∙ ap (raisedWord (pageOf bytes .limits)) (samples-command bytes es c)
+    ∙ ap (raisedWordAfter (pageOf bytes .limits)) (samples-command bytes es c)
     ∙ sym (ap (λ (d : Decision). d .raised) (shown-is bytes es))
 
 -- At an accepted sample.
@@ -328,25 +328,25 @@ module _ (bytes : List ℕ) (es : List Event) (switch : ℕ) where
       )
 
   pub on-exactly : switch < 2 → (hasBit (shown bytes es .fets) switch ≡ true) ↔ MayBeOn
-  unfolding blocked
+  unfolding blocksAfter
   on-exactly h = (λ e. may (sym (switch-bit bytes es switch h) ∙ e), λ m. switch-bit bytes es switch h ∙ must m)
 
 -- ---- a raised protection stops all bleeding
 
-nobody-wants : (page : Settings) (s : Sample) (h : List Sample) → someRaised (page .limits) (s ∷ h) ≡ true
+nobody-wants : (page : Settings) (s : Sample) (h : List Sample) → anyRaisedAfter (page .limits) (s ∷ h) ≡ true
     → (k : ℕ) → wishAt page s h k ≡ false
 unfolding wishAt wishes wants
 nobody-wants page s h e k =
     by-test (isCharging (page .rules .detection) (s .current)) (λ t. rw (t, e)) (λ t. rw t)
 
-none-bled : (page : Settings) (h : List Sample) → (raisedWord (page .limits) h ≡ 0 → ⊥) → bledAfter page h ≡ 0
-unfolding bledAfter bledWord wishesOf
+none-bled : (page : Settings) (h : List Sample) → (raisedWordAfter (page .limits) h ≡ 0 → ⊥) → bledAfter page h ≡ 0
+unfolding bledAfter bledWordAfter wishesAfter
 none-bled page [] some = refl
 none-bled page (s ∷ h) some =
-    let up : someRaised (page .limits) (s ∷ h) ≡ true =
-    someRaised-word (page .limits) (s ∷ h) ∙ rw (ne-eqb (raisedWord (page .limits) (s ∷ h)) 0 some) in
-    ap wordOf (walk-none (page .rules .k) (wishAt page s h) (resting (page .rules .r) (bledsAfter page h)) (nobody-wants page s h up)
-    (order (page .rules .n) (startCell (page .rules .n) (length (wishesOf page h)))) [])
+    let up : anyRaisedAfter (page .limits) (s ∷ h) ≡ true =
+    anyRaisedAfter-word (page .limits) (s ∷ h) ∙ rw (ne-eqb (raisedWordAfter (page .limits) (s ∷ h)) 0 some) in
+    ap cellsWord (walk-none (page .rules .k) (wishAt page s h) (resting (page .rules .r) (bledsAfter page h)) (nobody-wants page s h up)
+    (order (page .rules .n) (startCell (page .rules .n) (length (wishesAfter page h)))) [])
 
 -- While anything is raised, whatever its mask, nothing is bled.
 pub raised-stops : (bytes : List ℕ) (es : List Event) → (shown bytes es .raised ≡ 0 → ⊥) → shown bytes es .balance ≡ 0

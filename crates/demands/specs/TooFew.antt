@@ -17,7 +17,7 @@ use Rattle.page_judge.specs.Page.{judged}
 use Rattle.refusals.specs.declared.Verdict.{Verdict}
 use Rattle.refusals.specs.declared.Verdict.the-variants.{Accepted, Refused}
 use Rattle.laws.specs.Words.{anyOf, any-yes}
-use Rattle.bleed_wants.specs.Word.{inWord}
+use Rattle.bleed_wants.specs.Word.{holdsCell}
 use Rattle.bleed.specs.Walk.Walk.{upFrom}
 use Rattle.bleed.specs.Walk.History.{wantsCell}
 use Rattle.pack.specs.Events.{Event, accepts}
@@ -39,13 +39,13 @@ unfolding computed
 seven-shown = refl
 
 -- "At 7 it does": cell 1 wants at the last four samples, n + 1 of them, and is bled at the last.
-pub four-wait : (lastAll 4 (wantsCell 1) (wanted (pageFor 3) seven) ≡ true) × (among 4 (λ w. inWord w 1) (shownWords (pageFor 3) seven) ≡ 1)
+pub four-wait : (lastAll 4 (wantsCell 1) (wanted (pageFor 3) seven) ≡ true) × (among 4 (λ w. holdsCell w 1) (shownWords (pageFor 3) seven) ≡ 1)
 unfolding computed
 four-wait = (refl, refl)
 
 -- "Cell 1 wants at 4, 5 and 6 and gets nothing": n of them.
 pub three-too-few : (lastAll 3 (wantsCell 1) (drop 1 (wanted (pageFor 3) seven)) ≡ true)
-    × (among 3 (λ w. inWord w 1) (drop 1 (shownWords (pageFor 3) seven)) ≡ 0)
+    × (among 3 (λ w. holdsCell w 1) (drop 1 (shownWords (pageFor 3) seven)) ≡ 0)
 unfolding computed
 three-too-few = (refl, refl)
 
@@ -62,7 +62,7 @@ starves n =
     accepts (judged (pageFor n))
     && eqb (wordAt (pageFor n) 1) n
     && lastAll n (wantsCell 1) (wanted (pageFor n) (waiting n))
-    && eqb (among n (λ w. inWord w 1) (shownWords (pageFor n) (waiting n))) 0
+    && eqb (among n (λ w. holdsCell w 1) (shownWords (pageFor n) (waiting n))) 0
 
 all-starve : anyOf (λ i. not (starves (i + 3))) 8 ≡ false
 unfolding computed
@@ -85,14 +85,14 @@ pub record TooFew (n : ℕ) : Type 0 where
   pub page : judged (pageFor n) ≡ Accepted
   pub cells : wordAt (pageFor n) 1 ≡ n
   pub wanting : lastAll n (wantsCell 1) (wanted (pageFor n) (waiting n)) ≡ true
-  pub bled : among n (λ w. inWord w 1) (shownWords (pageFor n) (waiting n)) ≡ 0
+  pub bled : among n (λ w. holdsCell w 1) (shownWords (pageFor n) (waiting n)) ≡ 0
 
 pub too-few : (n : ℕ) → 3 ≤ n → n ≤ 10 → TooFew n
 too-few n least most =
     let a : Bool = accepts (judged (pageFor n)) in
     let b : Bool = eqb (wordAt (pageFor n) 1) n in
     let c : Bool = lastAll n (wantsCell 1) (wanted (pageFor n) (waiting n)) in
-    let d : Bool = eqb (among n (λ w. inWord w 1) (shownWords (pageFor n) (waiting n))) 0 in
+    let d : Bool = eqb (among n (λ w. holdsCell w 1) (shownWords (pageFor n) (waiting n))) 0 in
     let all : a && b && c && d ≡ true = starves-at n least most in
     let three : a && b && c ≡ true = and-left (a && b && c) d all in
     let two : a && b ≡ true = and-left (a && b) c three in
@@ -100,5 +100,5 @@ too-few n least most =
       page = accepted (judged (pageFor n)) (and-left a b two);
       cells = eqb-true (wordAt (pageFor n) 1) n (and-right a b two);
       wanting = and-right (a && b) c three;
-      bled = eqb-true (among n (λ w. inWord w 1) (shownWords (pageFor n) (waiting n))) 0 (and-right (a && b && c) d all);
+      bled = eqb-true (among n (λ w. holdsCell w 1) (shownWords (pageFor n) (waiting n))) 0 (and-right (a && b && c) d all);
     }

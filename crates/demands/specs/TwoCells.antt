@@ -31,10 +31,10 @@ use Rattle.bleed.specs.Walk.Walk.{has, chosen}
 use Rattle.bleed.specs.Walk.WalkLaws.{lone-bled}
 use Rattle.bleed.specs.Walk.History.{wantsCell, resting, startCell, bleds}
 use Rattle.bleed_wants.specs.Wants.{wants}
-use Rattle.bleed_wants.specs.Steps.{wishes, cellOf}
-use Rattle.bleed_wants.specs.Word.{inWord}
-use Rattle.pack_state.specs.State.{byPage, wishAt, wishesOf}
-use Rattle.demands.specs.BledWords.{bledWords, words-among}
+use Rattle.bleed_wants.specs.Steps.{wishes, voltsOf}
+use Rattle.bleed_wants.specs.Word.{holdsCell}
+use Rattle.pack_state.specs.State.{byPage, wishAt, wishesAfter}
+use Rattle.demands.specs.BledWords.{bledWordsAfter, words-among}
 
 -- ---- two samples in a row
 
@@ -85,7 +85,7 @@ above-lowest charges raised floor difference low cell e =
 -- Of two cells only one wants.
 one-wants : (page : Settings) (s : Sample) (h : List Sample) (k d : ℕ) → s .count ≡ 2 → 1 ≤ k → k ≤ 2 → 1 ≤ d → d ≤ 2
     → wishAt page s h k ≡ true → wishAt page s h d ≡ true → d ≡ k
-unfolding wishAt wishes cellOf
+unfolding wishAt wishes voltsOf
 one-wants page s h k d pair k1 k2 d1 d2 wk wd =
     let low : ℕ = extremesOf (s .cells) (s .count) .lowest .0 in
     let is : low ≡ lowest (s .cells) 2 .0 = ap (λ (e : Extremes). e .lowest .0) (extremes-are (s .cells) (s .count) (omega arith)) ∙ ap (λ (c : ℕ). lowest (s .cells) c .0) pair in
@@ -126,8 +126,8 @@ history-counts n (offer s ∷ es) =
 history-counts n (command c ∷ es) =
     by-test (accepts (commandVerdict c)) (λ t. rw t (history-counts n es)) (λ t. rw t (history-counts n es))
 
-wishes-alone : (page : Settings) (k : ℕ) → 1 ≤ k → k ≤ 2 → (h : List Sample) → Counts 2 h → Alone 2 k (wishesOf page h)
-unfolding wishesOf
+wishes-alone : (page : Settings) (k : ℕ) → 1 ≤ k → k ≤ 2 → (h : List Sample) → Counts 2 h → Alone 2 k (wishesAfter page h)
+unfolding wishesAfter
 wishes-alone page k first last [] c = tt
 wishes-alone page k first last (s ∷ h) c =
     (λ wk d d1 d2 wd. one-wants page s h k d (c .0) first last d1 d2 wk wd, wishes-alone page k first last h (c .1))
@@ -135,13 +135,13 @@ wishes-alone page k first last (s ∷ h) c =
 -- A pack of two cells, after any events: a cell that wants at two accepted samples in a row, j samples before the latest, is bled in at
 -- least one of them.
 pub two-suffice : (bytes : List ℕ) → judged bytes ≡ Accepted → pageOf bytes .rules .n ≡ 2 → (es : List Event) (k : ℕ) → 1 ≤ k → k ≤ 2
-    → (j : ℕ) → lastAll 2 (wantsCell k) (drop j (wishesOf (pageOf bytes) (pastAfter bytes es .history))) ≡ true
-    → 0 < among 2 (λ w. inWord w k) (drop j (bledWords (pageOf bytes) (pastAfter bytes es .history)))
+    → (j : ℕ) → lastAll 2 (wantsCell k) (drop j (wishesAfter (pageOf bytes) (pastAfter bytes es .history))) ≡ true
+    → 0 < among 2 (λ w. holdsCell w k) (drop j (bledWordsAfter (pageOf bytes) (pastAfter bytes es .history)))
 two-suffice bytes taken pair es k first last j wanting =
     let page = pageOf bytes in
     let good : Good page = rw (page-accepted bytes taken) (accepted-good bytes taken) in
     let h = pastAfter bytes es .history in
-    let ws = wishesOf page h in
+    let ws = wishesAfter page h in
     let counts : Counts 2 h = subst (λ (n : ℕ). Counts n h) pair (history-counts (page .rules .n) es) in
     let alone : Alone (page .rules .n) k ws = subst (λ (n : ℕ). Alone n k ws) (sym pair) (wishes-alone page k first last h counts) in
     rw (words-among page good k first 2 j h, ← byPage page bleds-drop j ws)

@@ -20,18 +20,18 @@ use Rattle.page_settings.specs.Settings.{inDegrees, sampleLevel, limitsFrom, li
 use Rattle.sample.specs.Cases as sample
 use Rattle.sample.specs.Cells.{bestOf, extremesOf}
 use Rattle.sample.specs.Measure.{measure}
-use Rattle.guard.specs.Steps.{raised, protectionsOf, protectionOf, stepAllWith, stepWith, stepOne}
+use Rattle.guard.specs.Steps.{raised, protectionsAfter, protectionAfter, stepAll, stepAt, stepOne}
 use Rattle.laws.specs.Words.{bitsOf, anyOf}
-use Rattle.guard_raised.specs.Words.{raisedBits, anyRaised, blocksOne, blocksAny, someRaised}
+use Rattle.guard_raised.specs.Words.{raisedWord, anyRaised, blocksOne, blocksAny, anyRaisedAfter}
 use Rattle.bleed_wants.specs.Wants.{wants}
-use Rattle.bleed_wants.specs.Word.{inWord, wordTo}
-use Rattle.bleed_wants.specs.Steps.{cellOf, wishes, wantingWord}
+use Rattle.bleed_wants.specs.Word.{holdsCell, cellsPassing}
+use Rattle.bleed_wants.specs.Steps.{voltsOf, wishes, wantingWord}
 use Rattle.laws.specs.Latest.{nextRun}
-use Rattle.bleed.specs.Resting.Steps.{nextCell, nextRuns, runOf, rested, restingWord}
+use Rattle.bleed.specs.Resting.Steps.{nextCell, nextRuns, cellRunOf, runReached, restingWord}
 use Rattle.bleed.specs.Walk.Walk.{has, upFrom}
 use Rattle.bleed.specs.Walk.Steps.{isCell, chosenWord}
 use Rattle.pack_refusals.specs.Samples.{cellsFit, sampleRefusals, sampleVerdict, commandRefusals, commandVerdict, keptCell, trimmed}
-use Rattle.pack_state.specs.State.{wishAt, wishesOf, freshPack, freshBalance, nextTick, nextBalance, wantWith, acceptedPack}
+use Rattle.pack_state.specs.State.{wishAt, wishesAfter, freshPack, freshBalance, nextTick, nextBalance, wantAt, acceptedPack}
 use Rattle.pack.specs.Events.{Event, offer, withEvent, pastOf}
 use Rattle.pack.specs.Answers.{offered, withCommand, commanded}
 use Rattle.pack.specs.Kept.{afterLoad}
@@ -57,10 +57,10 @@ pageFor n = pageWith (put 1 n ∷ put 2 1 ∷ put 3 1 ∷ [])
 unfoldable pub computed : Unit {0}
 unfolding anyOf loadedOf settingsOf rulesOf limitsOf limitsFrom sampleLevel inDegrees levelOf signedOf judged refusals meets
     kindOf kindMeets onRow levelMet orderMet wordAt within degreesFit levelFits rowAt table checkByte remainder withByte
-    timesXs timesX afterLoad freshPack freshBalance offered commanded withCommand acceptedPack nextBalance wantWith nextTick
+    timesXs timesX afterLoad freshPack freshBalance offered commanded withCommand acceptedPack nextBalance wantAt nextTick
     decisionOf switchesOf modeOf modeOrder firstMode sampleVerdict sampleRefusals commandVerdict commandRefusals cellsFit
-    trimmed keptCell protectionsOf protectionOf stepAllWith stepWith stepOne listOf listFrom eachTo extremesOf bestOf
-    raisedBits anyRaised blocksAny blocksOne bitsOf hasBit withBit withBitIf wants inWord wordTo cellOf runOf wishes
-    wantingWord rested restingWord nextCell nextRun nextRuns isCell chosenWord noSettings wishesOf wishAt someRaised raised
+    trimmed keptCell protectionsAfter protectionAfter stepAll stepAt stepOne listOf listFrom eachTo extremesOf bestOf
+    raisedWord anyRaised blocksAny blocksOne bitsOf hasBit withBit withBitIf wants holdsCell cellsPassing voltsOf cellRunOf wishes
+    wantingWord runReached restingWord nextCell nextRun nextRuns isCell chosenWord noSettings wishesAfter wishAt anyRaisedAfter raised
     measure withEvent pastOf
 computed = tt

@@ -13,12 +13,12 @@ use Rattle.protections.specs.Table.{rowAt, table}
 use Rattle.sample.specs.declared.Sample.{Sample}
 use Rattle.sample.specs.Cells.{bestOf, extremesOf}
 use Rattle.sample.specs.Measure.{measure}
-use Rattle.sample.specs.Cases.{minus, sampled}
+use Rattle.sample.specs.Cases.{belowZero, sampled}
 use Rattle.guard.specs.declared.rule.Alarm.{Alarm}
 use Rattle.guard.specs.declared.rule.Alarm.the-variants.{Clear, Raised}
 use Rattle.guard.specs.declared.rule.Protection.{Protection}
-use Rattle.guard.specs.Runs.{isRaised, runOf, alarmOf, alarmAfter}
-use Rattle.guard.specs.Steps.{raised, protectionOf, stepOne, stepWith}
+use Rattle.guard.specs.Runs.{isRaised, alarmRunOf, alarmAfter, alarmStepped}
+use Rattle.guard.specs.Steps.{raised, protectionAfter, stepOne, stepAt}
 
 -- ---- limits and samples, written short
 
@@ -42,8 +42,8 @@ fromHistory p l past (s ∷ coming) = raised (rowAt p) l (s ∷ past) ∷ fromHi
 abbrev pub bySteps : ℕ → Protection → List Sample → List Bool
 bySteps p g [] = []
 bySteps p g (s ∷ coming) =
-    isRaised (stepWith (extremesOf (s .cells) (s .count)) s p g .alarm)
-    ∷ bySteps p (stepWith (extremesOf (s .cells) (s .count)) s p g) coming
+    isRaised (stepAt (extremesOf (s .cells) (s .count)) s p g .alarm)
+    ∷ bySteps p (stepAt (extremesOf (s .cells) (s .count)) s p g) coming
 
 abbrev pub loaded : Limits → Protection
 loaded l = record { limits = l; alarm = Clear 0 }
@@ -51,7 +51,7 @@ loaded l = record { limits = l; alarm = Clear 0 }
 -- The alarm itself after all of them.
 abbrev alarmBySteps : ℕ → Protection → List Sample → Alarm
 alarmBySteps p g [] = g .alarm
-alarmBySteps p g (s ∷ coming) = alarmBySteps p (stepWith (extremesOf (s .cells) (s .count)) s p g) coming
+alarmBySteps p g (s ∷ coming) = alarmBySteps p (stepAt (extremesOf (s .cells) (s .count)) s p g) coming
 
 -- ---- (*) trip 4250, release 4150, N 3, M 2: raised at the sixth only, then released at the fourth
 
@@ -70,26 +70,26 @@ unfolding raised rowAt table measure extremesOf bestOf
 starred-history = refl
 
 pub starred-steps : bySteps 0 (loaded starredLimits) starredSamples ≡ starredAnswer
-unfolding stepOne stepWith nextRun rowAt table extremesOf bestOf
+unfolding stepOne stepAt nextRun rowAt table extremesOf bestOf
 starred-steps = refl
 
 -- The runs themselves: two tripping samples, and none once another came.
 pub run-counts : alarmBySteps 0 (loaded starredLimits) (high 4250 ∷ high 4250 ∷ []) ≡ Clear 2
-unfolding stepOne stepWith nextRun rowAt table extremesOf bestOf
+unfolding stepOne stepAt nextRun rowAt table extremesOf bestOf
 run-counts = refl
 
 pub run-ends : alarmBySteps 0 (loaded starredLimits) (high 4250 ∷ high 4250 ∷ high 4249 ∷ []) ≡ Clear 0
-unfolding stepOne stepWith nextRun rowAt table extremesOf bestOf
+unfolding stepOne stepAt nextRun rowAt table extremesOf bestOf
 run-ends = refl
 
 -- A run of releasing samples does not go on over the release: the next run of tripping samples starts from none.
 pub run-after-release : alarmBySteps 0 (loaded starredLimits) starredSamples ≡ Clear 0
-unfolding stepOne stepWith nextRun rowAt table extremesOf bestOf
+unfolding stepOne stepAt nextRun rowAt table extremesOf bestOf
 run-after-release = refl
 
 -- The same from the history, with the runs: after two samples, six, seven, eight and all ten.
 abbrev alarmSaid : List Sample → Alarm
-alarmSaid h = protectionOf (rowAt 0) starredLimits h .alarm
+alarmSaid h = protectionAfter (rowAt 0) starredLimits h .alarm
 
 pub alarms-history
     : (alarmSaid (high 4250 ∷ high 4250 ∷ [])
@@ -98,38 +98,38 @@ pub alarms-history
     ∷ alarmSaid (high 4151 ∷ high 4150 ∷ high 4250 ∷ high 4250 ∷ high 4250 ∷ high 4249 ∷ high 4250 ∷ high 4250 ∷ [])
     ∷ alarmSaid (reverse starredSamples) ∷ [])
     ≡ (Clear 2 ∷ Raised 0 ∷ Raised 1 ∷ Raised 0 ∷ Clear 0 ∷ [])
-unfolding protectionOf rowAt table measure extremesOf bestOf
+unfolding protectionAfter rowAt table measure extremesOf bestOf
 alarms-history = refl
 
 -- ---- currents are signed, to both ends of 16 bits
 
 -- Short current, at or below -32768, released at or above 32767.
 abbrev lowest-level : Limits
-lowest-level = limited (minus 32768) (pos 32767) 1 1 2
+lowest-level = limited (belowZero 32768) (pos 32767) 1 1 2
 
 pub lowest-current
-    : fromHistory 4 lowest-level [] (flow (minus 32767) ∷ flow (pos 32767) ∷ flow (minus 32768) ∷ flow (pos 32766) ∷ flow (pos 32767) ∷ [])
+    : fromHistory 4 lowest-level [] (flow (belowZero 32767) ∷ flow (pos 32767) ∷ flow (belowZero 32768) ∷ flow (pos 32766) ∷ flow (pos 32767) ∷ [])
     ≡ (false ∷ false ∷ true ∷ true ∷ false ∷ [])
 unfolding raised rowAt table measure
 lowest-current = refl
 
 -- Over charge current, at or above 32767, released at or below -32768.
 abbrev highest-level : Limits
-highest-level = limited (pos 32767) (minus 32768) 1 1 1
+highest-level = limited (pos 32767) (belowZero 32768) 1 1 1
 
 pub highest-current
-    : fromHistory 2 highest-level [] (flow (pos 32766) ∷ flow (minus 32768) ∷ flow (pos 32767) ∷ flow (minus 32767) ∷ flow (minus 32768) ∷ [])
+    : fromHistory 2 highest-level [] (flow (pos 32766) ∷ flow (belowZero 32768) ∷ flow (pos 32767) ∷ flow (belowZero 32767) ∷ flow (belowZero 32768) ∷ [])
     ≡ (false ∷ false ∷ true ∷ true ∷ false ∷ [])
 unfolding raised rowAt table measure
 highest-current = refl
 
 -- Over discharge current, at or below -5000: -4999, 5000 and 0 do not trip, -5000 does, and -1 and 100 release.
 abbrev discharge : Limits
-discharge = limited (minus 5000) (minus 100) 1 1 2
+discharge = limited (belowZero 5000) (belowZero 100) 1 1 2
 
 pub below-zero
     : fromHistory 3 discharge []
-    (flow (minus 4999) ∷ flow (pos 5000) ∷ flow (pos 0) ∷ flow (minus 5000) ∷ flow (minus 101) ∷ flow (minus 1) ∷ flow (minus 5001) ∷ flow (pos 100) ∷ [])
+    (flow (belowZero 4999) ∷ flow (pos 5000) ∷ flow (pos 0) ∷ flow (belowZero 5000) ∷ flow (belowZero 101) ∷ flow (belowZero 1) ∷ flow (belowZero 5001) ∷ flow (pos 100) ∷ [])
     ≡ (false ∷ false ∷ false ∷ true ∷ true ∷ false ∷ true ∷ false ∷ [])
 unfolding raised rowAt table measure
 below-zero = refl
@@ -149,12 +149,12 @@ abbrev alarms : List Alarm
 alarms =
     Clear 1 ∷ Clear 0 ∷ Raised 2 ∷ Raised 1 ∷ Raised 0 ∷ Raised 1 ∷ Raised 0 ∷ Clear 1 ∷ Clear 0 ∷ Clear 1 ∷ Clear 0 ∷ []
 
-pub rule-history : atEach (alarmOf 2 3 (eqb 1) (eqb 2)) trodden ≡ alarms
+pub rule-history : atEach (alarmAfter 2 3 (eqb 1) (eqb 2)) trodden ≡ alarms
 rule-history = refl
 
-pub rule-steps : atEach (alarmAfter 2 3 (eqb 1) (eqb 2)) trodden ≡ alarms
+pub rule-steps : atEach (alarmStepped 2 3 (eqb 1) (eqb 2)) trodden ≡ alarms
 unfolding nextRun
 rule-steps = refl
 
-pub runs-read : runOf (Clear 2) ∷ runOf (Raised 3) ∷ [] ≡ 2 ∷ 3 ∷ []
+pub runs-read : alarmRunOf (Clear 2) ∷ alarmRunOf (Raised 3) ∷ [] ≡ 2 ∷ 3 ∷ []
 runs-read = refl

@@ -17,16 +17,16 @@ abbrev pub isRaised : Alarm → Bool
 isRaised (Clear run) = false
 isRaised (Raised run) = true
 
-abbrev pub runOf : Alarm → ℕ
-runOf (Clear run) = run
-runOf (Raised run) = run
+abbrev pub alarmRunOf : Alarm → ℕ
+alarmRunOf (Clear run) = run
+alarmRunOf (Raised run) = run
 
 -- While clear the run is below N, while raised below M.
 abbrev pub RunWithin : ℕ → ℕ → Alarm → Type 0
 RunWithin N M (Clear run) = run < N
 RunWithin N M (Raised run) = run < M
 
-pub run-most : (N M most : ℕ) (a : Alarm) → N ≤ most → M ≤ most → RunWithin N M a → runOf a < most
+pub run-most : (N M most : ℕ) (a : Alarm) → N ≤ most → M ≤ most → RunWithin N M a → alarmRunOf a < most
 run-most N M most (Clear run) n m w = omega arith
 run-most N M most (Raised run) n m w = omega arith
 
@@ -56,18 +56,18 @@ module _ {S : Type 0} (N M : ℕ) (trips qualifies : S → Bool) where
   ruleRaisedAfter (s ∷ h) = cond (ruleRaisedAfter h) (not (lastAll M qualifies (s ∷ h))) (lastAll N trips (s ∷ h))
 
   -- "Each protection is either clear, with its run of tripping samples, or raised, with its run of releasing samples."
-  abbrev pub alarmOf : List S → Alarm
-  alarmOf h = cond (ruleRaisedAfter h) (Raised (run qualifies h)) (Clear (run trips h))
+  abbrev pub alarmAfter : List S → Alarm
+  alarmAfter h = cond (ruleRaisedAfter h) (Raised (run qualifies h)) (Clear (run trips h))
 
   -- A history stepped sample by sample from the load.
-  abbrev pub alarmAfter : List S → Alarm
-  alarmAfter [] = Clear 0
-  alarmAfter (s ∷ h) = nextAlarm N M (trips s) (qualifies s) (alarmAfter h)
+  abbrev pub alarmStepped : List S → Alarm
+  alarmStepped [] = Clear 0
+  alarmStepped (s ∷ h) = nextAlarm N M (trips s) (qualifies s) (alarmStepped h)
 
-  pub alarm-raised : (h : List S) → isRaised (alarmOf h) ≡ ruleRaisedAfter h
+  pub alarm-raised : (h : List S) → isRaised (alarmAfter h) ≡ ruleRaisedAfter h
   alarm-raised h = by-test (ruleRaisedAfter h) (λ e. rw e) (λ e. rw e)
 
-  alarm-none : (h : List S) → run trips h ≡ 0 → run qualifies h ≡ 0 → runOf (alarmOf h) ≡ 0
+  alarm-none : (h : List S) → run trips h ≡ 0 → run qualifies h ≡ 0 → alarmRunOf (alarmAfter h) ≡ 0
   alarm-none h t q = by-test (ruleRaisedAfter h) (λ e. rw e q) (λ e. rw e t)
 
   module _ (n-least : 1 ≤ N) (n-most : N ≤ 255) (m-least : 1 ≤ M) (m-most : M ≤ 255) (never : (s : S) → trips s ≡ true → qualifies s ≡ false) where
@@ -93,7 +93,7 @@ module _ {S : Type 0} (N M : ℕ) (trips qualifies : S → Bool) where
         (λ t. absurd (true≢false (sym (rw (u, lastAll-run, t, lt-leb N 0 n-least) at e)))))
 
     -- THE RUN RULE: one step on from what a history says is what the longer history says.
-    pub alarm-step : (s : S) (h : List S) → nextAlarm N M (trips s) (qualifies s) (alarmOf h) ≡ alarmOf (s ∷ h)
+    pub alarm-step : (s : S) (h : List S) → nextAlarm N M (trips s) (qualifies s) (alarmAfter h) ≡ alarmAfter (s ∷ h)
     alarm-step s h =
         by-test (ruleRaisedAfter h)
         (λ e. let w = raised-within h e in rw (e, run-goes-on (qualifies s) (run qualifies h) (omega arith), lastAll-run) (by-test (qualifies s)
@@ -104,17 +104,17 @@ module _ {S : Type 0} (N M : ℕ) (trips qualifies : S → Bool) where
         (λ t. rw (t, lt-leb N 0 n-least))))
 
     -- After any history the stepped alarm is what the history says, its run included.
-    pub alarm-is : (h : List S) → alarmAfter h ≡ alarmOf h
+    pub alarm-is : (h : List S) → alarmStepped h ≡ alarmAfter h
     alarm-is [] = refl
     alarm-is (s ∷ h) = ap (nextAlarm N M (trips s) (qualifies s)) (alarm-is h) ∙ alarm-step s h
 
     -- No run leaves its type, however long the history is: it stays below N while clear, below M while raised.
-    pub alarm-within : (h : List S) → RunWithin N M (alarmOf h)
+    pub alarm-within : (h : List S) → RunWithin N M (alarmAfter h)
     alarm-within h = by-test (ruleRaisedAfter h) (λ e. rw e (raised-within h e)) (λ e. rw e (clear-within h e))
 
     -- A sample that neither trips nor qualifies ends both runs, and neither raises nor releases.
     pub neither-ends : (s : S) (h : List S) → trips s ≡ false → qualifies s ≡ false
-        → (ruleRaisedAfter (s ∷ h) ≡ ruleRaisedAfter h) × (runOf (alarmOf (s ∷ h)) ≡ 0)
+        → (ruleRaisedAfter (s ∷ h) ≡ ruleRaisedAfter h) × (alarmRunOf (alarmAfter (s ∷ h)) ≡ 0)
     neither-ends s h t q = (stays, alarm-none (s ∷ h) (rw t) (rw q))
       where
         stays : ruleRaisedAfter (s ∷ h) ≡ ruleRaisedAfter h

@@ -12,7 +12,7 @@ use Rattle.laws.specs.Each.{eachTo, each-next}
 use Rattle.protections.specs.declared.Direction.{Direction}
 use Rattle.protections.specs.declared.Limits.{Limits}
 use Rattle.protections.specs.declared.Row.{Row}
-use Rattle.protections.specs.Direction.{reaches, back, never-both}
+use Rattle.protections.specs.Direction.{reaches, backOf, never-both}
 use Rattle.protections.specs.Limits.{noLimits, limitsAt, GoodLimits, AllGood}
 use Rattle.protections.specs.Table.{rowAt, protections}
 use Rattle.sample.specs.declared.Sample.{Sample}
@@ -21,7 +21,7 @@ use Rattle.guard.specs.declared.rule.Protection.{Protection}
 use Rattle.guard.specs.declared.rule.Alarm.{Alarm}
 use Rattle.guard.specs.declared.rule.Alarm.the-variants.{Clear}
 use Rattle.sample.specs.Cells.{extremesOf}
-use Rattle.sample.specs.Measure.{measureWith, measure, trips, qualifies, between, between-neither}
+use Rattle.sample.specs.Measure.{measured, measure, trips, qualifies, between, between-neither}
 use Rattle.laws.specs.Numbered.{listOf, listOf-length, listOf-at, each-listOf}
 use Rattle.guard.specs.Runs as runs
 use Rattle.guard.specs.Runs.{nextAlarm, RunWithin}
@@ -48,12 +48,12 @@ unfolding raised
 released-when row l s h e = rw e
 
 -- The protection after a history: its limits, and its alarm with its run.
-unfoldable pub protectionOf : Row → Limits → List Sample → Protection
-protectionOf row l h = record { limits = l; alarm = runs.alarmOf (l .n) (l .m) (trips row l) (qualifies row l) h }
+unfoldable pub protectionAfter : Row → Limits → List Sample → Protection
+protectionAfter row l h = record { limits = l; alarm = runs.alarmAfter (l .n) (l .m) (trips row l) (qualifies row l) h }
 
 -- Every protection after a history, as the page's limits say.
-unfoldable pub protectionsOf : List Limits → List Sample → List Protection
-protectionsOf ls h = listOf (λ p. protectionOf (rowAt p) (limitsAt ls p) h) protections
+unfoldable pub protectionsAfter : List Limits → List Sample → List Protection
+protectionsAfter ls h = listOf (λ p. protectionAfter (rowAt p) (limitsAt ls p) h) protections
 
 -- ---- by the step
 
@@ -63,26 +63,26 @@ stepOne d value p =
     record {
       limits = p .limits;
       alarm =
-          nextAlarm (p .limits .n) (p .limits .m) (reaches d (p .limits .trip .0) value) (reaches (back d) (p .limits .release .0) value)
+          nextAlarm (p .limits .n) (p .limits .m) (reaches d (p .limits .trip .0) value) (reaches (backOf d) (p .limits .release .0) value)
           (p .alarm);
     }
 
 -- Protection p by its row of the table, if e are the sample's highest and lowest cell.
-unfoldable pub stepWith : Extremes → Sample → ℕ → Protection → Protection
-stepWith e s p = stepOne (rowAt p .direction) (measureWith e (rowAt p .quantity) s)
+unfoldable pub stepAt : Extremes → Sample → ℕ → Protection → Protection
+stepAt e s p = stepOne (rowAt p .direction) (measured e (rowAt p .quantity) s)
 
 -- Every protection, one sample on, if e are the sample's highest and lowest cell.
-unfoldable pub stepAllWith : Extremes → Sample → List Protection → List Protection
-stepAllWith e s = eachTo noProtection (stepWith e s) protections
+unfoldable pub stepAll : Extremes → Sample → List Protection → List Protection
+stepAll e s = eachTo noProtection (stepAt e s) protections
 
 -- Every protection, one sample on.
-abbrev pub stepAll : Sample → List Protection → List Protection
-stepAll s = stepAllWith (extremesOf (s .cells) (s .count)) s
+abbrev pub stepAllBy : Sample → List Protection → List Protection
+stepAllBy s = stepAll (extremesOf (s .cells) (s .count)) s
 
 -- The array stepped sample by sample from the load.
-abbrev pub protectionsAfter : List Limits → List Sample → List Protection
-protectionsAfter ls [] = protectionsOf ls []
-protectionsAfter ls (s ∷ h) = stepAll s (protectionsAfter ls h)
+abbrev pub protectionsStepped : List Limits → List Sample → List Protection
+protectionsStepped ls [] = protectionsAfter ls []
+protectionsStepped ls (s ∷ h) = stepAllBy s (protectionsStepped ls h)
 
 -- A protection at the load: clear, with no run.
 unfoldable pub clear : Limits → Protection
@@ -106,8 +106,8 @@ clear-next ls l out i r q e = each-next noProtection (clearAt ls) i l out r q e
 
 -- Once all are stepped.
 pub step-all-is : (e : Extremes) (s : Sample) (ps out : List Protection) (i : ℕ) → i ≡ protections
-    → out ≡ eachTo noProtection (stepWith e s) i ps → out ≡ stepAllWith e s ps
-unfolding stepAllWith
+    → out ≡ eachTo noProtection (stepAt e s) i ps → out ≡ stepAll e s ps
+unfolding stepAll
 step-all-is e s ps out i n q = rw (← n) q
 
 -- ---- one protection of good limits
@@ -125,69 +125,69 @@ module _ (row : Row) (l : Limits) (g : GoodLimits (row .direction) l) where
 
   -- One step on from what a history says is what the longer history says.
   pub protection-step : (s : Sample) (h : List Sample)
-      → stepOne (row .direction) (measure (row .quantity) s) (protectionOf row l h) ≡ protectionOf row l (s ∷ h)
-  unfolding stepOne protectionOf
+      → stepOne (row .direction) (measure (row .quantity) s) (protectionAfter row l h) ≡ protectionAfter row l (s ∷ h)
+  unfolding stepOne protectionAfter
   protection-step s h =
       ap (λ (a : Alarm). record { limits = l; alarm = a })
       (runs.alarm-step (l .n) (l .m) (trips row l) (qualifies row l) (g .n-least) n-byte (g .m-least) m-byte never-at-once s h)
 
   -- Its run stays below N or M, however long the history is.
-  pub protection-within : (h : List Sample) → Within (protectionOf row l h)
-  unfolding protectionOf
+  pub protection-within : (h : List Sample) → Within (protectionAfter row l h)
+  unfolding protectionAfter
   protection-within h = runs.alarm-within (l .n) (l .m) (trips row l) (qualifies row l) (g .n-least) n-byte (g .m-least) m-byte never-at-once h
 
   -- So it is below 240, and fits its byte.
-  pub protection-run : (h : List Sample) → runs.runOf (protectionOf row l h .alarm) < 240
-  unfolding protectionOf
+  pub protection-run : (h : List Sample) → runs.alarmRunOf (protectionAfter row l h .alarm) < 240
+  unfolding protectionAfter
   protection-run h =
-      runs.run-most (l .n) (l .m) 240 (runs.alarmOf (l .n) (l .m) (trips row l) (qualifies row l) h) (g .n-most) (g .m-most) (protection-within h)
+      runs.run-most (l .n) (l .m) 240 (runs.alarmAfter (l .n) (l .m) (trips row l) (qualifies row l) h) (g .n-most) (g .m-most) (protection-within h)
 
   -- A sample between the two levels ends both runs: whatever the history was, it stays clear or raised and its run is none.
   pub between-ends : (s : Sample) (h : List Sample) → between (row .direction) (l .trip .0) (l .release .0) (measure (row .quantity) s) ≡ true
-      → (raised row l (s ∷ h) ≡ raised row l h) × (runs.runOf (protectionOf row l (s ∷ h) .alarm) ≡ 0)
-  unfolding raised protectionOf
+      → (raised row l (s ∷ h) ≡ raised row l h) × (runs.alarmRunOf (protectionAfter row l (s ∷ h) .alarm) ≡ 0)
+  unfolding raised protectionAfter
   between-ends s h b =
       let e = between-neither (row .direction) (l .trip .0) (l .release .0) (measure (row .quantity) s) b in
       runs.neither-ends (l .n) (l .m) (trips row l) (qualifies row l) (g .n-least) n-byte (g .m-least) m-byte never-at-once s h (e .0) (e .1)
 
-pub protection-raised : (row : Row) (l : Limits) (h : List Sample) → runs.isRaised (protectionOf row l h .alarm) ≡ raised row l h
-unfolding protectionOf raised
+pub protection-raised : (row : Row) (l : Limits) (h : List Sample) → runs.isRaised (protectionAfter row l h .alarm) ≡ raised row l h
+unfolding protectionAfter raised
 protection-raised row l h = runs.alarm-raised (l .n) (l .m) (trips row l) (qualifies row l) h
 
-pub protection-limits : (row : Row) (l : Limits) (h : List Sample) → protectionOf row l h .limits ≡ l
-unfolding protectionOf
+pub protection-limits : (row : Row) (l : Limits) (h : List Sample) → protectionAfter row l h .limits ≡ l
+unfolding protectionAfter
 protection-limits row l h = refl
 
 -- ---- all protections
 
 module _ (ls : List Limits) where
-  pub protections-length : (h : List Sample) → length (protectionsOf ls h) ≡ protections
-  unfolding protectionsOf
-  protections-length h = listOf-length (λ p. protectionOf (rowAt p) (limitsAt ls p) h) protections
+  pub protections-length : (h : List Sample) → length (protectionsAfter ls h) ≡ protections
+  unfolding protectionsAfter
+  protections-length h = listOf-length (λ p. protectionAfter (rowAt p) (limitsAt ls p) h) protections
 
   -- Entry p is protection p after the history.
   pub protections-at : (h : List Sample) (p : ℕ) → p < protections
-      → getD (protectionsOf ls h) p noProtection ≡ protectionOf (rowAt p) (limitsAt ls p) h
-  unfolding protectionsOf
-  protections-at h p q = listOf-at (λ p. protectionOf (rowAt p) (limitsAt ls p) h) protections p noProtection q
+      → getD (protectionsAfter ls h) p noProtection ≡ protectionAfter (rowAt p) (limitsAt ls p) h
+  unfolding protectionsAfter
+  protections-at h p q = listOf-at (λ p. protectionAfter (rowAt p) (limitsAt ls p) h) protections p noProtection q
 
   -- At the load, with no sample, every protection is clear with no run.
-  pub fresh-is : (l : List Protection) → length l ≡ protections → eachTo noProtection (clearAt ls) protections l ≡ protectionsOf ls []
-  unfolding protectionsOf protectionOf clearAt clear
+  pub fresh-is : (l : List Protection) → length l ≡ protections → eachTo noProtection (clearAt ls) protections l ≡ protectionsAfter ls []
+  unfolding protectionsAfter protectionAfter clearAt clear
   fresh-is l e =
-      each-listOf noProtection (clearAt ls) (λ p. protectionOf (rowAt p) (limitsAt ls p) []) protections l e (λ p q. refl)
+      each-listOf noProtection (clearAt ls) (λ p. protectionAfter (rowAt p) (limitsAt ls p) []) protections l e (λ p q. refl)
 
 module _ (ls : List Limits) (g : AllGood ls) where
   -- The whole array, one sample on from what a history says, is what the longer history says.
-  pub protections-step : (s : Sample) (h : List Sample) → stepAll s (protectionsOf ls h) ≡ protectionsOf ls (s ∷ h)
-  unfolding stepAllWith stepWith protectionsOf measure
+  pub protections-step : (s : Sample) (h : List Sample) → stepAllBy s (protectionsAfter ls h) ≡ protectionsAfter ls (s ∷ h)
+  unfolding stepAll stepAt protectionsAfter measure
   protections-step s h =
-      each-listOf noProtection (stepWith (extremesOf (s .cells) (s .count)) s) (λ p. protectionOf (rowAt p) (limitsAt ls p) (s ∷ h)) protections
-      (protectionsOf ls h) (protections-length ls h) (λ p q.
-      ap (stepWith (extremesOf (s .cells) (s .count)) s p) (protections-at ls h p q)
+      each-listOf noProtection (stepAt (extremesOf (s .cells) (s .count)) s) (λ p. protectionAfter (rowAt p) (limitsAt ls p) (s ∷ h)) protections
+      (protectionsAfter ls h) (protections-length ls h) (λ p q.
+      ap (stepAt (extremesOf (s .cells) (s .count)) s p) (protections-at ls h p q)
       ∙ protection-step (rowAt p) (limitsAt ls p) (g p q) s h)
 
   -- The load and then every sample of a history, stepped: the array is what the history says, each alarm with its run.
-  pub protections-is : (h : List Sample) → protectionsAfter ls h ≡ protectionsOf ls h
+  pub protections-is : (h : List Sample) → protectionsStepped ls h ≡ protectionsAfter ls h
   protections-is [] = refl
-  protections-is (s ∷ h) = ap (stepAll s) (protections-is h) ∙ protections-step s h
+  protections-is (s ∷ h) = ap (stepAllBy s) (protections-is h) ∙ protections-step s h

@@ -1,7 +1,7 @@
 // All protections together: as a load leaves them, and one sample on.
 ghost use mathlib.Core.Path.{_≡_};
 ghost use mathlib.Core.List.{[]};
-ghost use Rattle.guard.specs.Steps.{clear, stepWith, stepAllWith, protectionsOf};
+ghost use Rattle.guard.specs.Steps.{clear, stepAt, stepAll, protectionsAfter};
 use crate::rule::Alarm;
 use crate::rule::Protection;
 use crate::rule::step_one;
@@ -15,7 +15,7 @@ use units::ProtectionNo;
 
 // Protection `no`, one sample on, by its row of the table.
 fn step_at(no: ProtectionNo, s: Sample, e: Extremes, p: Protection) -> Protection
-    ensures { λ r. ⌜ r ≡ stepWith e s (no .0) p ⌝ }
+    ensures { λ r. ⌜ r ≡ stepAt e s (no .0) p ⌝ }
 {
     let row = row_of(no);
     let quantity = row.quantity;
@@ -26,7 +26,7 @@ fn step_at(no: ProtectionNo, s: Sample, e: Extremes, p: Protection) -> Protectio
 
 // Every protection, one sample on; e are the highest and the lowest cell of the sample.
 pub fn step_all(ps: [Protection; PROTECTIONS], s: Sample, e: Extremes) -> [Protection; PROTECTIONS]
-    ensures { λ r. ⌜ r ≡ stepAllWith e s ps ⌝ }
+    ensures { λ r. ⌜ r ≡ stepAll e s ps ⌝ }
 {
     let mut out = ps;
     let mut i: usize = 0;
@@ -51,7 +51,7 @@ fn cleared(limits: Limits) -> Protection
 
 // Every protection at the load.
 pub fn fresh(ls: [Limits; PROTECTIONS]) -> [Protection; PROTECTIONS]
-    ensures { λ r. ⌜ r ≡ protectionsOf ls [] ⌝ }
+    ensures { λ r. ⌜ r ≡ protectionsAfter ls [] ⌝ }
 {
     let first = cleared(ls[0]);
     let mut out = [first; PROTECTIONS];

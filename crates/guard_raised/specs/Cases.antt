@@ -15,11 +15,11 @@ use Rattle.protections.specs.Table.{rowAt, table}
 use Rattle.sample.specs.declared.Sample.{Sample}
 use Rattle.sample.specs.Cells.{bestOf, extremesOf}
 use Rattle.sample.specs.Measure.{measure}
-use Rattle.sample.specs.Cases.{minus, sampled}
+use Rattle.sample.specs.Cases.{belowZero, sampled}
 use Rattle.guard.specs.declared.rule.Protection.{Protection}
 use Rattle.guard.specs.Cases.{limited}
-use Rattle.guard.specs.Steps.{raised, protectionOf, protectionsOf, protectionsAfter, stepOne, stepWith, stepAllWith}
-use Rattle.guard_raised.specs.Words.{raisedBits, anyRaised, raisedWord, someRaised, blocksOne, blocksAny, blocked}
+use Rattle.guard.specs.Steps.{raised, protectionAfter, protectionsAfter, protectionsStepped, stepOne, stepAt, stepAll}
+use Rattle.guard_raised.specs.Words.{raisedWord, anyRaised, raisedWordAfter, anyRaisedAfter, blocksOne, blocksAny, blocksAfter}
 
 -- Over voltage blocks charge after two samples, the second thermistor discharge after one, over charge current only reports.
 abbrev page : List Limits
@@ -27,8 +27,8 @@ page =
     limited (pos 4250) (pos 4150) 2 2 1
     ∷ limited (pos 0) (pos 1) 1 1 3
     ∷ limited (pos 900) (pos 800) 1 1 0
-    ∷ limited (minus 32768) (pos 0) 1 1 3
-    ∷ limited (minus 32768) (pos 0) 1 1 3
+    ∷ limited (belowZero 32768) (pos 0) 1 1 3
+    ∷ limited (belowZero 32768) (pos 0) 1 1 3
     ∷ limited (pos 3930) (pos 3000) 1 1 3
     ∷ limited (pos 3930) (pos 3000) 1 1 3
     ∷ limited (pos 3330) (pos 3000) 1 1 2
@@ -48,27 +48,27 @@ abbrev said : ℕ → Bool → Bool → Bool → Said
 said w a c d = record { word = w; any = a; charge = c; discharge = d }
 
 abbrev fromPage : List Sample → Said
-fromPage h = said (raisedWord page h) (someRaised page h) (blocked page h 0) (blocked page h 1)
+fromPage h = said (raisedWordAfter page h) (anyRaisedAfter page h) (blocksAfter page h 0) (blocksAfter page h 1)
 
 -- The fifth has the protection of mask 0 alone: it is raised and blocks no switch. The last has two of mask 3.
 pub words-history
     : (fromPage [] ∷ fromPage (seen 4260 (pos 0) 2980 ∷ []) ∷ fromPage (seen 4260 (pos 0) 2980 ∷ seen 4260 (pos 0) 2980 ∷ [])
     ∷ fromPage (seen 4000 (pos 0) 3330 ∷ []) ∷ fromPage (seen 4000 (pos 900) 2980 ∷ [])
-    ∷ fromPage (seen 4260 (pos 900) 3330 ∷ seen 4250 (pos 0) 2980 ∷ []) ∷ fromPage (seen 4000 (minus 32768) 2980 ∷ []) ∷ [])
+    ∷ fromPage (seen 4260 (pos 900) 3330 ∷ seen 4250 (pos 0) 2980 ∷ []) ∷ fromPage (seen 4000 (belowZero 32768) 2980 ∷ []) ∷ [])
     ≡ (said 0 false false false ∷ said 0 false false false ∷ said 1 true true false ∷ said 128 true false true ∷ said 4 true false false ∷ said 133 true true true ∷ said 24 true true true ∷ [])
-unfolding raisedWord someRaised blocked bitsOf anyOf withBitIf withBit hasBit raised rowAt table measure extremesOf bestOf
+unfolding raisedWordAfter anyRaisedAfter blocksAfter bitsOf anyOf withBitIf withBit hasBit raised rowAt table measure extremesOf bestOf
 words-history = refl
 
 -- The same by the steps of the whole array from the load.
 abbrev fromArray : List Protection → Said
-fromArray ps = said (raisedBits ps) (anyRaised ps) (blocksAny 0 ps) (blocksAny 1 ps)
+fromArray ps = said (raisedWord ps) (anyRaised ps) (blocksAny 0 ps) (blocksAny 1 ps)
 
 pub words-steps
-    : (fromArray (protectionsAfter page []) ∷ fromArray (protectionsAfter page (seen 4000 (pos 0) 3330 ∷ []))
-    ∷ fromArray (protectionsAfter page (seen 4000 (pos 900) 2980 ∷ []))
-    ∷ fromArray (protectionsAfter page (seen 4260 (pos 900) 3330 ∷ seen 4250 (pos 0) 2980 ∷ []))
-    ∷ fromArray (protectionsAfter page (seen 4000 (minus 32768) 2980 ∷ [])) ∷ [])
+    : (fromArray (protectionsStepped page []) ∷ fromArray (protectionsStepped page (seen 4000 (pos 0) 3330 ∷ []))
+    ∷ fromArray (protectionsStepped page (seen 4000 (pos 900) 2980 ∷ []))
+    ∷ fromArray (protectionsStepped page (seen 4260 (pos 900) 3330 ∷ seen 4250 (pos 0) 2980 ∷ []))
+    ∷ fromArray (protectionsStepped page (seen 4000 (belowZero 32768) 2980 ∷ [])) ∷ [])
     ≡ (said 0 false false false ∷ said 128 true false true ∷ said 4 true false false ∷ said 133 true true true ∷ said 24 true true true ∷ [])
-unfolding raisedBits anyRaised blocksAny blocksOne bitsOf anyOf withBitIf withBit hasBit stepAllWith stepWith stepOne nextRun eachTo protectionsOf
-    protectionOf listOf listFrom rowAt table extremesOf bestOf
+unfolding raisedWord anyRaised blocksAny blocksOne bitsOf anyOf withBitIf withBit hasBit stepAll stepAt stepOne nextRun eachTo protectionsAfter
+    protectionAfter listOf listFrom rowAt table extremesOf bestOf
 words-steps = refl

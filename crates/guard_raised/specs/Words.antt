@@ -15,7 +15,7 @@ use Rattle.protections.specs.Table.{rowAt, protections}
 use Rattle.sample.specs.declared.Sample.{Sample}
 use Rattle.guard.specs.declared.rule.Protection.{Protection}
 use Rattle.guard.specs.Runs.{isRaised}
-use Rattle.guard.specs.Steps.{noProtection, raised, protectionsOf, protections-at, protection-raised, protection-limits}
+use Rattle.guard.specs.Steps.{noProtection, raised, protectionsAfter, protections-at, protection-raised, protection-limits}
 
 -- ---- from the page's limits and the history
 
@@ -24,16 +24,16 @@ abbrev pub raisedAfter : List Limits → List Sample → ℕ → Bool
 raisedAfter ls h p = raised (rowAt p) (limitsAt ls p) h
 
 -- Bit p for raised p.
-unfoldable pub raisedWord : List Limits → List Sample → ℕ
-raisedWord ls h = bitsOf (raisedAfter ls h) protections
+unfoldable pub raisedWordAfter : List Limits → List Sample → ℕ
+raisedWordAfter ls h = bitsOf (raisedAfter ls h) protections
 
 -- A protection is raised, whatever its mask: mask 0 only reports, and is raised all the same.
-unfoldable pub someRaised : List Limits → List Sample → Bool
-someRaised ls h = anyOf (raisedAfter ls h) protections
+unfoldable pub anyRaisedAfter : List Limits → List Sample → Bool
+anyRaisedAfter ls h = anyOf (raisedAfter ls h) protections
 
 -- A raised protection has the mask bit of the switch: 0 is charge, 1 is discharge.
-unfoldable pub blocked : List Limits → List Sample → ℕ → Bool
-blocked ls h switch = anyOf (λ p. raisedAfter ls h p && hasBit (limitsAt ls p .mask) switch) protections
+unfoldable pub blocksAfter : List Limits → List Sample → ℕ → Bool
+blocksAfter ls h switch = anyOf (λ p. raisedAfter ls h p && hasBit (limitsAt ls p .mask) switch) protections
 
 -- ---- read off the array
 
@@ -41,8 +41,8 @@ abbrev pub raisedAt : List Protection → ℕ → Bool
 raisedAt ps p = isRaised (getD ps p noProtection .alarm)
 
 -- "`raised` has bit p for raised p."
-unfoldable pub raisedBits : List Protection → ℕ
-raisedBits ps = bitsOf (raisedAt ps) protections
+unfoldable pub raisedWord : List Protection → ℕ
+raisedWord ps = bitsOf (raisedAt ps) protections
 
 unfoldable pub anyRaised : List Protection → Bool
 anyRaised ps = anyOf (raisedAt ps) protections
@@ -58,37 +58,37 @@ blocksAny switch ps = anyOf (λ p. blocksOne switch (getD ps p noProtection)) pr
 
 module _ (ls : List Limits) (h : List Sample) where
   -- Bit p of the word is set exactly if protection p is raised.
-  pub raisedWord-has : (p : ℕ) → p < protections → hasBit (raisedWord ls h) p ≡ raisedAfter ls h p
-  unfolding raisedWord
-  raisedWord-has p q = bits-has (raisedAfter ls h) protections p (omega arith) q
+  pub raisedWordAfter-has : (p : ℕ) → p < protections → hasBit (raisedWordAfter ls h) p ≡ raisedAfter ls h p
+  unfolding raisedWordAfter
+  raisedWordAfter-has p q = bits-has (raisedAfter ls h) protections p (omega arith) q
 
   -- No protection is raised exactly if the word is 0.
-  pub someRaised-word : someRaised ls h ≡ not (eqb (raisedWord ls h) 0)
-  unfolding someRaised raisedWord
-  someRaised-word = any-bits (raisedAfter ls h) protections (omega arith)
+  pub anyRaisedAfter-word : anyRaisedAfter ls h ≡ not (eqb (raisedWordAfter ls h) 0)
+  unfolding anyRaisedAfter raisedWordAfter
+  anyRaisedAfter-word = any-bits (raisedAfter ls h) protections (omega arith)
 
 -- ---- the array that stands for a history says what the history says
 
 module _ (ls : List Limits) (h : List Sample) where
-  raised-at : (p : ℕ) → p < protections → raisedAt (protectionsOf ls h) p ≡ raisedAfter ls h p
+  raised-at : (p : ℕ) → p < protections → raisedAt (protectionsAfter ls h) p ≡ raisedAfter ls h p
   raised-at p q = rw (protections-at ls h p q) (protection-raised (rowAt p) (limitsAt ls p) h)
 
-  pub raisedBits-is : raisedBits (protectionsOf ls h) ≡ raisedWord ls h
-  unfolding raisedBits raisedWord
-  raisedBits-is = bits-same (raisedAt (protectionsOf ls h)) (raisedAfter ls h) protections raised-at
+  pub raisedWord-is : raisedWord (protectionsAfter ls h) ≡ raisedWordAfter ls h
+  unfolding raisedWord raisedWordAfter
+  raisedWord-is = bits-same (raisedAt (protectionsAfter ls h)) (raisedAfter ls h) protections raised-at
 
-  pub anyRaised-is : anyRaised (protectionsOf ls h) ≡ someRaised ls h
-  unfolding anyRaised someRaised
-  anyRaised-is = any-same (raisedAt (protectionsOf ls h)) (raisedAfter ls h) protections raised-at
+  pub anyRaised-is : anyRaised (protectionsAfter ls h) ≡ anyRaisedAfter ls h
+  unfolding anyRaised anyRaisedAfter
+  anyRaised-is = any-same (raisedAt (protectionsAfter ls h)) (raisedAfter ls h) protections raised-at
 
   blocks-at : (switch p : ℕ) → p < protections
-      → blocksOne switch (getD (protectionsOf ls h) p noProtection) ≡ raisedAfter ls h p && hasBit (limitsAt ls p .mask) switch
+      → blocksOne switch (getD (protectionsAfter ls h) p noProtection) ≡ raisedAfter ls h p && hasBit (limitsAt ls p .mask) switch
   unfolding blocksOne
   blocks-at switch p q =
       rw (protections-at ls h p q) (ap₂ _&&_ (protection-raised (rowAt p) (limitsAt ls p) h) (rw protection-limits))
 
-  pub blocksAny-is : (switch : ℕ) → blocksAny switch (protectionsOf ls h) ≡ blocked ls h switch
-  unfolding blocksAny blocked
+  pub blocksAny-is : (switch : ℕ) → blocksAny switch (protectionsAfter ls h) ≡ blocksAfter ls h switch
+  unfolding blocksAny blocksAfter
   blocksAny-is switch =
-      any-same (λ p. blocksOne switch (getD (protectionsOf ls h) p noProtection))
+      any-same (λ p. blocksOne switch (getD (protectionsAfter ls h) p noProtection))
       (λ p. raisedAfter ls h p && hasBit (limitsAt ls p .mask) switch) protections (blocks-at switch)

@@ -1,7 +1,7 @@
 // What the raised protections say: the word of them, whether there is one, and which switches they block.
 ghost use mathlib.Core.Path.{_≡_};
 ghost use Rattle.guard.specs.Runs.{isRaised};
-ghost use Rattle.guard_raised.specs.Words.{raisedBits, anyRaised, blocksOne, blocksAny};
+ghost use Rattle.guard_raised.specs.Words.{raisedWord, anyRaised, blocksOne, blocksAny};
 use guard::rule::Alarm;
 use guard::rule::Protection;
 use laws::has_bit;
@@ -19,7 +19,7 @@ fn is_raised(a: Alarm) -> bool
 
 // Bit p for raised p.
 pub fn raised_word(ps: [Protection; PROTECTIONS]) -> u16
-    ensures { λ r. ⌜ r ≡ raisedBits ps ⌝ }
+    ensures { λ r. ⌜ r ≡ raisedWord ps ⌝ }
 {
     let mut w: u16 = 0;
     let mut i: usize = 0;

@@ -19,7 +19,7 @@ use Rattle.refusals.specs.declared.Verdict.the-variants as verdict
 use Rattle.pack_state.specs.declared.Pack.{Pack}
 use Rattle.pack.specs.Kept.{afterLoad}
 use Rattle.log_answers.specs.Tell.{tell, tell-overlong}
-use Rattle.log_texts.specs.Texts.{textOf, openingText}
+use Rattle.log_texts.specs.Texts.{toldText, openingText}
 use Rattle.log_texts.specs.Room.{room, roomed, roomed-is, nothing-put}
 use Rattle.log_answers.specs.declared.Outcome.{Outcome}
 use Rattle.log.specs.declared.chunk.Fed.{Fed}
@@ -31,7 +31,7 @@ abbrev pub nextPack : Pack → List ℕ → Pack
 nextPack p line = tell p line .pack
 
 abbrev pub lineText : Pack → List ℕ → List ℕ
-lineText p line = textOf (tell p line .told)
+lineText p line = toldText (tell p line .told)
 
 -- "One line per log line": what a log is answered with, from a pack on.
 abbrev pub output : Pack → List ℕ → List ℕ
@@ -77,7 +77,7 @@ Pass buf p r buf′ = run.Feed nextPack noText 0 buf [] p true (r .used) (r .hel
 pub alike : any.Alike nextPack lineText
 alike p l m h k =
     let e : tell p l ≡ tell p m = tell-overlong p l h ∙ sym (tell-overlong p m k) in
-    (ap (λ (t : Outcome). t .pack) e, ap (λ (t : Outcome). textOf (t .told)) e)
+    (ap (λ (t : Outcome). t .pack) e, ap (λ (t : Outcome). toldText (t .told)) e)
 
 -- The newline of the last line was put.
 pub closing-none : (buf : List ℕ) (held : ℕ) → held ≡ 0 → Put buf held (closing held) 0 buf
@@ -91,12 +91,12 @@ closing-put buf held r e n p = rw (ne-eqb held 0 n) p
 -- One answer more in a chunk.
 module _ (text d : List ℕ) (s : Pack) (at w : ℕ) (k : Pack) (o : List ℕ) (g : cut.Going nextPack lineText room text d s at w k o) where
   pub chunk-on : (end on : ℕ) → Ended text at end on → w + room ≤ length o → (t : Outcome) → t ≡ tell k (take (end - at) (drop at text))
-      → (r : ℕ) (e : List ℕ) → length (roomed (length o) w (textOf (t .told))) ≤ room → Put o w (roomed (length o) w (textOf (t .told))) r e
+      → (r : ℕ) (e : List ℕ) → length (roomed (length o) w (toldText (t .told))) ≤ room → Put o w (roomed (length o) w (toldText (t .told))) r e
       → cut.Going nextPack lineText room text d s on r (t .pack) e
   chunk-on end on n h t et r e few p =
-      let i = roomed-is (length o) w (textOf (t .told)) h in
-      cut.going-on nextPack lineText room text d s at w k o g end on n h (textOf (t .told)) (t .pack) r e (rw i at few)
-      (ap (λ (q : Outcome). textOf (q .told)) et) (ap (λ (q : Outcome). q .pack) et) (rw i at p)
+      let i = roomed-is (length o) w (toldText (t .told)) h in
+      cut.going-on nextPack lineText room text d s at w k o g end on n h (toldText (t .told)) (t .pack) r e (rw i at few)
+      (ap (λ (q : Outcome). toldText (q .told)) et) (ap (λ (q : Outcome). q .pack) et) (rw i at p)
 
 -- One line more in a pass.
 module _ (text : List ℕ) (s : Pack) (at : ℕ) (k : Pack) (g : cut.Going nextPack noText 0 text [] s at 0 k []) where

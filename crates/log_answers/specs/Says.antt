@@ -8,17 +8,17 @@ use Rattle.refusals.specs.declared.Verdict.{Verdict}
 use Rattle.refusals.specs.declared.Verdict.the-variants as verdict
 use Rattle.pack_refusals.specs.Samples.{sampleVerdict, commandVerdict}
 use Rattle.pack_state.specs.declared.Pack.{Pack}
-use Rattle.pack_state.specs.State.{stateOf}
+use Rattle.pack_state.specs.State.{stateAfter}
 use Rattle.pack.specs.Events.{Event, offer, command}
 use Rattle.pack.specs.Answers.{offered, commanded}
-use Rattle.pack.specs.Kept.{pageOf, pastAfter, stateAfter}
+use Rattle.pack.specs.Kept.{pageOf, pastAfter, packAfter}
 use Rattle.pack.specs.After.{after, after-is}
 use Rattle.pack_shown.specs.Shown.{decisionAfter, decisionOf}
 use Rattle.pack_shown.specs.Decided.{decision-is}
 use Rattle.log_entries.specs.declared.Kind.{Kind}
 use Rattle.log_entries.specs.declared.Kind.the-variants.{Offer, Command, Malformed}
 use Rattle.log_entries.specs.declared.Entry.{Entry}
-use Rattle.log_entries.specs.Entry.{entryOf}
+use Rattle.log_entries.specs.Entry.{readEntry}
 use Rattle.log_answers.specs.declared.Told.{Told}
 use Rattle.log_answers.specs.declared.Told.the-variants.{Decided, Refused}
 use Rattle.log_answers.specs.Tell.{toldOf, answeredAs, outcomeOf, tell}
@@ -30,7 +30,7 @@ withEntry Command e es = command (e .command) ∷ es
 withEntry Malformed e es = es
 
 abbrev pub eventsWith : List Event → List ℕ → List Event
-eventsWith es line = withEntry (entryOf line .kind) (entryOf line) es
+eventsWith es line = withEntry (readEntry line .kind) (readEntry line) es
 
 -- The events of some lines in time order, behind those of the lines before them.
 unfoldable pub eventsBehind : List Event → List (List ℕ) → List Event
@@ -50,16 +50,16 @@ module _ (page : List ℕ) where
   saysAs Malformed es e = Refused 17
 
   abbrev pub says : List Event → List ℕ → Told
-  says es line = saysAs (entryOf line .kind) es (entryOf line)
+  says es line = saysAs (readEntry line .kind) es (readEntry line)
 
   -- ---- a line is answered so
 
   cells-are : (es : List Event) → after page es .rules .n ≡ pageOf page .rules .n
-  unfolding stateAfter stateOf
+  unfolding packAfter stateAfter
   cells-are es = ap (λ (p : Pack). p .rules .n) (after-is page es)
 
   told-is : (v : Verdict) (es : List Event) → toldOf v (after page es) ≡ toldAfter v es
-  unfolding stateAfter
+  unfolding packAfter
   told-is verdict.Accepted es =
       ap Decided (ap decisionOf (after-is page es) ∙ decision-is (pageOf page) (pastAfter page es))
   told-is (verdict.Refused number word) es = refl
@@ -82,9 +82,9 @@ module _ (page : List ℕ) where
   -- A line behind these events is answered with what document 01 says of it,
   pub line-told : (es : List Event) (line : List ℕ) → tell (after page es) line .told ≡ says es line
   unfolding tell
-  line-told es line = outcome-is (entryOf line .kind) es (entryOf line) .0
+  line-told es line = outcome-is (readEntry line .kind) es (readEntry line) .0
 
   -- and the pack behind it is the one behind these events and the line's.
   pub line-pack : (es : List Event) (line : List ℕ) → tell (after page es) line .pack ≡ after page (eventsWith es line)
   unfolding tell
-  line-pack es line = outcome-is (entryOf line .kind) es (entryOf line) .1
+  line-pack es line = outcome-is (readEntry line .kind) es (readEntry line) .1

@@ -8,14 +8,14 @@ use Prim.Native.Nat.{ℕ}
 use lib.Dec.{leb, eqb}
 use Rattle.laws.specs.Tests.{by-test}
 use Rattle.sample.specs.declared.Sample.{Sample}
-use Rattle.units.specs.Cells.{lookedAt}
+use Rattle.units.specs.Cells.{tenAtMost}
 use Rattle.pack_refusals.specs.Samples.{cellsFit, temperatureFits, exactCount, sampleRefusals, sampleVerdict, commandRefusals, commandVerdict}
 use Rattle.pack_state.specs.declared.Pack.{Pack}
 use Rattle.pack.specs.Answers.{offered, commanded}
 use Rattle.log_entries.specs.declared.Kind.{Kind}
 use Rattle.log_entries.specs.declared.Kind.the-variants.{Offer, Command, Malformed}
 use Rattle.log_entries.specs.declared.Entry.{Entry}
-use Rattle.log_entries.specs.Entry.{entryOf}
+use Rattle.log_entries.specs.Entry.{readEntry}
 use Rattle.log_answers.specs.declared.Told.{Told}
 use Rattle.log_answers.specs.declared.Told.the-variants.{Decided, Refused}
 use Rattle.log_answers.specs.Tell.{toldOf, answeredAs, outcomeOf, tell}
@@ -36,7 +36,7 @@ unfolding sampleVerdict sampleRefusals
 sample-never n s p =
     by-test (exactCount n (s .count))
     (λ a. rw a
-    (by-test (cellsFit (s .cells) (lookedAt (s .count)))
+    (by-test (cellsFit (s .cells) (tenAtMost (s .count)))
     (λ b. rw b (by-test (temperatureFits (s .t1 .0) && temperatureFits (s .t2 .0)) (λ d. rw d) (λ d. rw d)))
     (λ b. rw b)))
     (λ a. rw a)
@@ -52,6 +52,6 @@ by-kind Command p e = command-never (e .command) _
 by-kind Malformed p e = refl
 
 -- For every pack and every sequence of bytes.
-pub seventeen-exactly : (p : Pack) (line : List ℕ) → isSeventeen (tell p line .told) ≡ isMalformed (entryOf line .kind)
+pub seventeen-exactly : (p : Pack) (line : List ℕ) → isSeventeen (tell p line .told) ≡ isMalformed (readEntry line .kind)
 unfolding tell
-seventeen-exactly p line = by-kind (entryOf line .kind) p (entryOf line)
+seventeen-exactly p line = by-kind (readEntry line .kind) p (readEntry line)

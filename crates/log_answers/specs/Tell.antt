@@ -14,7 +14,7 @@ use Rattle.pack_shown.specs.Shown.{decisionOf}
 use Rattle.log_entries.specs.declared.Kind.{Kind}
 use Rattle.log_entries.specs.declared.Kind.the-variants.{Offer, Command, Malformed}
 use Rattle.log_entries.specs.declared.Entry.{Entry}
-use Rattle.log_entries.specs.Entry.{entryOf}
+use Rattle.log_entries.specs.Entry.{readEntry}
 use Rattle.log_entries.specs.Reading.{overlong}
 use Rattle.log_answers.specs.declared.Told.{Told}
 use Rattle.log_answers.specs.declared.Told.the-variants.{Decided, Refused}
@@ -39,10 +39,10 @@ answeredAs Malformed p e = answered (verdict.Refused 17 0) p
 
 -- What a line does to a pack.
 unfoldable pub tell : Pack → List ℕ → Outcome
-tell p line = outcomeOf (entryOf line .kind) (answeredAs (entryOf line .kind) p (entryOf line))
+tell p line = outcomeOf (readEntry line .kind) (answeredAs (readEntry line .kind) p (readEntry line))
 
 -- The kind of a line is told by its bytes alone: a sample was accepted exactly where it is `Offer` and the answer a decision.
-pub tell-kind : (p : Pack) (line : List ℕ) → tell p line .kind ≡ entryOf line .kind
+pub tell-kind : (p : Pack) (line : List ℕ) → tell p line .kind ≡ readEntry line .kind
 unfolding tell outcomeOf
 tell-kind p line = refl
 
@@ -52,7 +52,7 @@ unfolding tell outcomeOf
 tell-overlong p line h = ap (λ (e : Entry). outcomeOf (e .kind) (answeredAs (e .kind) p e)) (overlong line h)
 
 -- The line was read as e, and the pack's answer a was told as r.
-pub tell-made : (p : Pack) (line : List ℕ) (e : Entry) (a : Answered) (r : Outcome) → e ≡ entryOf line → a ≡ answeredAs (e .kind) p e
+pub tell-made : (p : Pack) (line : List ℕ) (e : Entry) (a : Answered) (r : Outcome) → e ≡ readEntry line → a ≡ answeredAs (e .kind) p e
     → r ≡ outcomeOf (e .kind) a → Kept (a .pack) → (r ≡ tell p line) × Kept (r .pack)
 unfolding tell outcomeOf
 tell-made p line e a r ee ea er kept = (rw (← ee, ← ea) er, rw er kept)

@@ -11,9 +11,9 @@ use Rattle.sample.specs.Cells.{noVolts}
 use Rattle.sample.specs.None.{noSample}
 use Rattle.text_fields.specs.Finding.{lacks}
 use Rattle.text_fields.specs.Fields.{fieldsOf}
-use Rattle.text_numbers.specs.Numbers.{numberTo, digitsTo, signedOf}
+use Rattle.text_numbers.specs.Numbers.{numberTo, digitsTo, readSigned}
 use Rattle.log_entries.specs.declared.Kind.the-variants.{Offer, Command, Malformed}
-use Rattle.log_entries.specs.Entry.{malformed, command, offer, commandOf, cellsFrom, secondOf, firstOf, sampleOf, fieldsSay, entryOf}
+use Rattle.log_entries.specs.Entry.{malformed, command, offer, readCommand, cellsFrom, secondOf, firstOf, readSample, fieldsSay, readEntry}
 
 abbrev mv : ℕ → MilliVolts
 mv v = record { 0 = v }
@@ -22,19 +22,19 @@ abbrev zeros : ℕ → List MilliVolts
 zeros n = replicate n noVolts
 
 -- `F 3`, and `F 65535`: a command is any 16-bit number here, and the pack refuses what is above 3
-pub command-read : (entryOf (quoted "F\t3") ≡ command 3)
-    × (entryOf (quoted "F\t65535") ≡ command 65535)
-unfolding entryOf fieldsSay sampleOf firstOf secondOf cellsFrom commandOf lacks fieldsOf numberTo digitsTo signedOf
+pub command-read : (readEntry (quoted "F\t3") ≡ command 3)
+    × (readEntry (quoted "F\t65535") ≡ command 65535)
+unfolding readEntry fieldsSay readSample firstOf secondOf cellsFrom readCommand lacks fieldsOf numberTo digitsTo readSigned
 command-read = (refl, refl)
 
 -- the second line of 01's example; the current alone may have a minus
-pub sample-read : (entryOf (quoted "S\t500\t2980\t2980\t4000\t4020") ≡ offer (pos 500) 2980 2980 2 (mv 4000 ∷ mv 4020 ∷ zeros 8))
-    × (entryOf (quoted "S\t-32768\t0\t65535") ≡ offer (negsuc 32767) 0 65535 0 (zeros 10))
-unfolding entryOf fieldsSay sampleOf firstOf secondOf cellsFrom commandOf lacks fieldsOf numberTo digitsTo signedOf
+pub sample-read : (readEntry (quoted "S\t500\t2980\t2980\t4000\t4020") ≡ offer (pos 500) 2980 2980 2 (mv 4000 ∷ mv 4020 ∷ zeros 8))
+    × (readEntry (quoted "S\t-32768\t0\t65535") ≡ offer (negsuc 32767) 0 65535 0 (zeros 10))
+unfolding readEntry fieldsSay readSample firstOf secondOf cellsFrom readCommand lacks fieldsOf numberTo digitsTo readSigned
 sample-read = (refl, refl)
 
 -- where each number of an `S` line goes: eleven unlike ones, and no cell behind the eighth
-pub sample-fields : entryOf (quoted "S\t-7\t2981\t2992\t3001\t3002\t3003\t3004\t3005\t3006\t3007\t3008")
+pub sample-fields : readEntry (quoted "S\t-7\t2981\t2992\t3001\t3002\t3003\t3004\t3005\t3006\t3007\t3008")
     ≡ record {
       kind = Offer;
       command = 0;
@@ -46,51 +46,51 @@ pub sample-fields : entryOf (quoted "S\t-7\t2981\t2992\t3001\t3002\t3003\t3004\t
         t2 = record { 0 = 2992 };
       };
     }
-unfolding entryOf fieldsSay sampleOf firstOf secondOf cellsFrom commandOf lacks fieldsOf numberTo digitsTo signedOf
+unfolding readEntry fieldsSay readSample firstOf secondOf cellsFrom readCommand lacks fieldsOf numberTo digitsTo readSigned
 sample-fields = refl
 
 -- what an `F` line and a malformed line say, every field
-pub other-fields : (entryOf (quoted "F\t2") ≡ record { kind = Command; command = 2; sample = noSample })
-    × (entryOf (quoted "F") ≡ record { kind = Malformed; command = 0; sample = noSample })
-unfolding entryOf fieldsSay sampleOf firstOf secondOf cellsFrom commandOf lacks fieldsOf numberTo digitsTo signedOf
+pub other-fields : (readEntry (quoted "F\t2") ≡ record { kind = Command; command = 2; sample = noSample })
+    × (readEntry (quoted "F") ≡ record { kind = Malformed; command = 0; sample = noSample })
+unfolding readEntry fieldsSay readSample firstOf secondOf cellsFrom readCommand lacks fieldsOf numberTo digitsTo readSigned
 other-fields = (refl, refl)
 
 -- any other first field or count of fields: the empty line, `S`, `F`, `f 3`, `F 3 3`, `FF 3`, a trailing tab, `S` with two numbers
-pub fields-wrong : (entryOf [] ≡ malformed)
-    × (entryOf (quoted "S") ≡ malformed)
-    × (entryOf (quoted "F") ≡ malformed)
-    × (entryOf (quoted "f\t3") ≡ malformed)
-    × (entryOf (quoted "F\t3\t3") ≡ malformed)
-    × (entryOf (quoted "FF\t3") ≡ malformed)
-    × (entryOf (quoted "F\t3\t") ≡ malformed)
-    × (entryOf (quoted "S\t500\t2980\t2980\t") ≡ malformed)
-    × (entryOf (quoted "S\t500\t2980") ≡ malformed)
-    × (entryOf (quoted "\tF\t3") ≡ malformed)
-unfolding entryOf fieldsSay sampleOf firstOf secondOf cellsFrom commandOf lacks fieldsOf numberTo digitsTo signedOf
+pub fields-wrong : (readEntry [] ≡ malformed)
+    × (readEntry (quoted "S") ≡ malformed)
+    × (readEntry (quoted "F") ≡ malformed)
+    × (readEntry (quoted "f\t3") ≡ malformed)
+    × (readEntry (quoted "F\t3\t3") ≡ malformed)
+    × (readEntry (quoted "FF\t3") ≡ malformed)
+    × (readEntry (quoted "F\t3\t") ≡ malformed)
+    × (readEntry (quoted "S\t500\t2980\t2980\t") ≡ malformed)
+    × (readEntry (quoted "S\t500\t2980") ≡ malformed)
+    × (readEntry (quoted "\tF\t3") ≡ malformed)
+unfolding readEntry fieldsSay readSample firstOf secondOf cellsFrom readCommand lacks fieldsOf numberTo digitsTo readSigned
 fields-wrong = (refl, refl, refl, refl, refl, refl, refl, refl, refl, refl)
 
 -- leading zeros, `-0`, a minus elsewhere, 65536, 32768 as a current, a plus, a blank, a letter
-pub numbers-wrong : (entryOf (quoted "F\t03") ≡ malformed)
-    × (entryOf (quoted "S\t-0\t2980\t2980") ≡ malformed)
-    × (entryOf (quoted "S\t1\t-2980\t2980") ≡ malformed)
-    × (entryOf (quoted "F\t65536") ≡ malformed)
-    × (entryOf (quoted "S\t32768\t2980\t2980") ≡ malformed)
-    × (entryOf (quoted "S\t+1\t2980\t2980") ≡ malformed)
-    × (entryOf (quoted "F\t 3") ≡ malformed)
-    × (entryOf (quoted "F\tx") ≡ malformed)
-unfolding entryOf fieldsSay sampleOf firstOf secondOf cellsFrom commandOf lacks fieldsOf numberTo digitsTo signedOf
+pub numbers-wrong : (readEntry (quoted "F\t03") ≡ malformed)
+    × (readEntry (quoted "S\t-0\t2980\t2980") ≡ malformed)
+    × (readEntry (quoted "S\t1\t-2980\t2980") ≡ malformed)
+    × (readEntry (quoted "F\t65536") ≡ malformed)
+    × (readEntry (quoted "S\t32768\t2980\t2980") ≡ malformed)
+    × (readEntry (quoted "S\t+1\t2980\t2980") ≡ malformed)
+    × (readEntry (quoted "F\t 3") ≡ malformed)
+    × (readEntry (quoted "F\tx") ≡ malformed)
+unfolding readEntry fieldsSay readSample firstOf secondOf cellsFrom readCommand lacks fieldsOf numberTo digitsTo readSigned
 numbers-wrong = (refl, refl, refl, refl, refl, refl, refl, refl)
 
 -- a carriage return; eleven cells
-pub returns-and-more : (entryOf (quoted "F\t3\r") ≡ malformed)
-    × (entryOf (quoted "S\t1\t2\t3\t1\t1\t1\t1\t1\t1\t1\t1\t1\t1\t1") ≡ malformed)
-unfolding entryOf fieldsSay sampleOf firstOf secondOf cellsFrom commandOf lacks fieldsOf numberTo digitsTo signedOf
+pub returns-and-more : (readEntry (quoted "F\t3\r") ≡ malformed)
+    × (readEntry (quoted "S\t1\t2\t3\t1\t1\t1\t1\t1\t1\t1\t1\t1\t1\t1") ≡ malformed)
+unfolding readEntry fieldsSay readSample firstOf secondOf cellsFrom readCommand lacks fieldsOf numberTo digitsTo readSigned
 returns-and-more = (refl, refl)
 
 -- the longest line that can be read: `S`, -32768, and 65535 twelve times
 abbrev pub eighty : List ℕ
 eighty = quoted "S\t-32768\t65535\t65535\t65535\t65535\t65535\t65535\t65535\t65535\t65535\t65535\t65535\t65535"
 
-pub eighty-read : (length eighty ≡ 80) × (entryOf eighty ≡ offer (negsuc 32767) 65535 65535 10 (replicate 10 (mv 65535)))
-unfolding entryOf fieldsSay sampleOf firstOf secondOf cellsFrom commandOf lacks fieldsOf numberTo digitsTo signedOf
+pub eighty-read : (length eighty ≡ 80) × (readEntry eighty ≡ offer (negsuc 32767) 65535 65535 10 (replicate 10 (mv 65535)))
+unfolding readEntry fieldsSay readSample firstOf secondOf cellsFrom readCommand lacks fieldsOf numberTo digitsTo readSigned
 eighty-read = (refl, refl)

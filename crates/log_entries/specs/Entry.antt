@@ -15,7 +15,7 @@ use Rattle.text_numbers.specs.declared.Signed.{Signed}
 use Rattle.text_numbers.specs.declared.Signed.the-variants as signed
 use Rattle.text_fields.specs.Finding.{lacks}
 use Rattle.text_fields.specs.Fields.{fieldsOf}
-use Rattle.text_numbers.specs.Numbers.{numberOf, signedOf}
+use Rattle.text_numbers.specs.Numbers.{readNumber, readSigned}
 use Rattle.log_entries.specs.declared.Kind.the-variants.{Offer, Command, Malformed}
 use Rattle.log_entries.specs.declared.Entry.{Entry}
 
@@ -50,32 +50,32 @@ ifSigned (signed.Value z) says = says z
 ifSigned signed.Malformed says = malformed
 
 -- "`F` has the command", and any other count of fields is malformed.
-unfoldable pub commandOf : List (List ℕ) → Entry
-commandOf [] = malformed
-commandOf (f ∷ []) = ifNumber (numberOf f) command
-commandOf (f ∷ g ∷ fs) = malformed
+unfoldable pub readCommand : List (List ℕ) → Entry
+readCommand [] = malformed
+readCommand (f ∷ []) = ifNumber (readNumber f) command
+readCommand (f ∷ g ∷ fs) = malformed
 
 -- "`S` has current, temperature 1, temperature 2 and the cells": each field more is the next cell, behind the k before it. "More than 10
 -- cells .. is malformed; an `S` line with no cell is not".
 unfoldable pub cellsFrom : ℤ → ℕ → ℕ → ℕ → List MilliVolts → List (List ℕ) → Entry
 cellsFrom current t1 t2 k cells [] = offer current t1 t2 k cells
 cellsFrom current t1 t2 k cells (f ∷ fs) =
-    cond (ltb k 10) (ifNumber (numberOf f) (λ v. cellsFrom current t1 t2 (suc k) (set cells k (record { 0 = v })) fs)) malformed
+    cond (ltb k 10) (ifNumber (readNumber f) (λ v. cellsFrom current t1 t2 (suc k) (set cells k (record { 0 = v })) fs)) malformed
 
 -- Temperature 2, and then the cells, of which there is none yet.
 unfoldable pub secondOf : ℤ → ℕ → List (List ℕ) → Entry
 secondOf current t1 [] = malformed
-secondOf current t1 (f ∷ fs) = ifNumber (numberOf f) (λ t2. cellsFrom current t1 t2 0 (replicate 10 noVolts) fs)
+secondOf current t1 (f ∷ fs) = ifNumber (readNumber f) (λ t2. cellsFrom current t1 t2 0 (replicate 10 noVolts) fs)
 
 -- Temperature 1, and what follows it.
 unfoldable pub firstOf : ℤ → List (List ℕ) → Entry
 firstOf current [] = malformed
-firstOf current (f ∷ fs) = ifNumber (numberOf f) (λ t1. secondOf current t1 fs)
+firstOf current (f ∷ fs) = ifNumber (readNumber f) (λ t1. secondOf current t1 fs)
 
 -- The current, and what follows it.
-unfoldable pub sampleOf : List (List ℕ) → Entry
-sampleOf [] = malformed
-sampleOf (f ∷ fs) = ifSigned (signedOf f) (λ current. firstOf current fs)
+unfoldable pub readSample : List (List ℕ) → Entry
+readSample [] = malformed
+readSample (f ∷ fs) = ifSigned (readSigned f) (λ current. firstOf current fs)
 
 -- Whether a field is this one letter.
 abbrev pub isLetter : ℕ → List ℕ → Bool
@@ -86,10 +86,10 @@ isLetter c (b ∷ d ∷ bs) = false
 -- `F` is byte 70, `S` byte 83. "Any other first field .. is malformed", the empty line's empty field among them.
 unfoldable pub fieldsSay : List (List ℕ) → Entry
 fieldsSay [] = malformed
-fieldsSay (f ∷ fs) = cond (isLetter 70 f) (commandOf fs) (cond (isLetter 83 f) (sampleOf fs) malformed)
+fieldsSay (f ∷ fs) = cond (isLetter 70 f) (readCommand fs) (cond (isLetter 83 f) (readSample fs) malformed)
 
 -- ---- the line
 
 -- "A carriage return .. or a line over 128 bytes (its newline not counted) is malformed"; a carriage return is byte 13.
-unfoldable pub entryOf : List ℕ → Entry
-entryOf line = cond (ltb 128 (length line)) malformed (cond (lacks 13 line) (fieldsSay (fieldsOf line)) malformed)
+unfoldable pub readEntry : List ℕ → Entry
+readEntry line = cond (ltb 128 (length line)) malformed (cond (lacks 13 line) (fieldsSay (fieldsOf line)) malformed)

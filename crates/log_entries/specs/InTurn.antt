@@ -16,13 +16,13 @@ use Rattle.laws.specs.Each.{eachTo}
 use Rattle.units.specs.declared.MilliVolts.{MilliVolts}
 use Rattle.sample.specs.Cells.{noVolts}
 use Rattle.text_numbers.specs.declared.Number.the-variants.{Value, Malformed}
-use Rattle.text_numbers.specs.Numbers.{numberOf}
+use Rattle.text_numbers.specs.Numbers.{readNumber}
 use Rattle.text_numbers.specs.Signs.{withSign, signedNumber, hasMinus, pastMinus, minus-field, minus-signed, plain-signed}
 use Rattle.text_numbers.specs.declared.Signed.{Signed}
 use Rattle.text_numbers.specs.declared.Signed.the-variants as signed
 use Rattle.text_fields.specs.Fields.{fieldAt}
 use Rattle.log_entries.specs.declared.Entry.{Entry}
-use Rattle.log_entries.specs.Entry.{malformed, offer, ifSigned, cellsFrom, secondOf, firstOf, sampleOf}
+use Rattle.log_entries.specs.Entry.{malformed, offer, ifSigned, cellsFrom, secondOf, firstOf, readSample}
 use Rattle.log_entries.specs.Left.{left, left-none, left-next}
 use Rattle.log_entries.specs.Reading.{cell-over, cell-none, cell-next}
 
@@ -36,13 +36,13 @@ unfoldable pub cellsOf : List ℕ → List MilliVolts
 cellsOf numbers = inMilliVolts (drop 3 numbers)
 
 -- What the fields of an `S` line say, the first of them without its minus.
-unfoldable pub startOf : Bool → List (List ℕ) → Entry
-startOf below [] = malformed
-startOf below (f ∷ fs) = ifSigned (signedNumber below (numberOf f)) (λ current. firstOf current fs)
+unfoldable pub readNumbers : Bool → List (List ℕ) → Entry
+readNumbers below [] = malformed
+readNumbers below (f ∷ fs) = ifSigned (signedNumber below (readNumber f)) (λ current. firstOf current fs)
 
 -- What the fields that are left say, behind the first k numbers.
 unfoldable pub behind : Bool → ℕ → List ℕ → List (List ℕ) → Entry
-behind below zero numbers fs = startOf below fs
+behind below zero numbers fs = readNumbers below fs
 behind below (suc zero) numbers fs = ifSigned (withSign below (getD numbers 0 0)) (λ current. firstOf current fs)
 behind below (suc (suc zero)) numbers fs =
     ifSigned (withSign below (getD numbers 0 0)) (λ current. secondOf current (getD numbers 1 0) fs)
@@ -75,17 +75,17 @@ module _ (below : Bool) (f : List ℕ) (fs : List (List ℕ)) where
   behind-over (suc (suc zero)) numbers h = absurd (omega arith)
   behind-over (suc (suc (suc k))) numbers h = for-any (withSign below (getD numbers 0 0)) (λ z. cellsFrom z (getD numbers 1 0) (getD numbers 2 0) k (cellsOf numbers) (f ∷ fs)) (λ z. cell-over z _ _ k _ f fs (omega arith))
 
-  pub behind-none : (k : ℕ) (numbers : List ℕ) → k < 13 → numberOf f ≡ Malformed → behind below k numbers (f ∷ fs) ≡ malformed
-  unfolding behind startOf firstOf secondOf
+  pub behind-none : (k : ℕ) (numbers : List ℕ) → k < 13 → readNumber f ≡ Malformed → behind below k numbers (f ∷ fs) ≡ malformed
+  unfolding behind readNumbers firstOf secondOf
   behind-none zero numbers h e = rw e
   behind-none (suc zero) numbers h e = for-any (withSign below (getD numbers 0 0)) (λ z. firstOf z (f ∷ fs)) (λ z. rw e)
   behind-none (suc (suc zero)) numbers h e = for-any (withSign below (getD numbers 0 0)) (λ z. secondOf z (getD numbers 1 0) (f ∷ fs)) (λ z. rw e)
   behind-none (suc (suc (suc k))) numbers h e = for-any (withSign below (getD numbers 0 0)) (λ z. cellsFrom z (getD numbers 1 0) (getD numbers 2 0) k (cellsOf numbers) (f ∷ fs)) (λ z. cell-none z _ _ k _ f fs (omega arith) e)
 
   -- One number more, and no cell before the fourth.
-  pub behind-next : (k v : ℕ) (numbers : List ℕ) → k < 13 → length numbers ≡ 13 → NoCell k numbers → numberOf f ≡ Value v
+  pub behind-next : (k v : ℕ) (numbers : List ℕ) → k < 13 → length numbers ≡ 13 → NoCell k numbers → readNumber f ≡ Value v
       → (behind below k numbers (f ∷ fs) ≡ behind below (k + 1) (set numbers k v) fs) × NoCell (k + 1) (set numbers k v)
-  unfolding behind startOf firstOf secondOf cellsOf
+  unfolding behind readNumbers firstOf secondOf cellsOf
   behind-next k v [] h l n e = absurd (omega arith)
   behind-next k v (a ∷ []) h l n e = absurd (omega arith)
   behind-next k v (a ∷ b ∷ []) h l n e = absurd (omega arith)
@@ -100,7 +100,7 @@ module _ (below : Bool) (f : List ℕ) (fs : List (List ℕ)) where
 
 -- The line ends behind too few numbers, or behind the cells.
 pub behind-few : (below : Bool) (k : ℕ) (numbers : List ℕ) → k < 3 → behind below k numbers [] ≡ malformed
-unfolding behind startOf firstOf secondOf
+unfolding behind readNumbers firstOf secondOf
 behind-few below zero numbers h = refl
 behind-few below (suc zero) numbers h = for-any (withSign below (getD numbers 0 0)) (λ z. firstOf z []) (λ z. refl)
 behind-few below (suc (suc zero)) numbers h = for-any (withSign below (getD numbers 0 0)) (λ z. secondOf z (getD numbers 1 0) []) (λ z. refl)
@@ -117,8 +117,8 @@ behind-all below (suc (suc (suc k))) numbers h =
 
 -- The fields from a place on, read behind the minus that may stand there.
 pub sample-start : (line : List ℕ) (from : ℕ)
-    → sampleOf (left line from) ≡ startOf (ltb from (pastMinus line from)) (left line (pastMinus line from))
-unfolding sampleOf startOf pastMinus
+    → readSample (left line from) ≡ readNumbers (ltb from (pastMinus line from)) (left line (pastMinus line from))
+unfolding readSample readNumbers pastMinus
 sample-start line from =
     by-test (hasMinus line from)
     (λ t.
@@ -128,19 +128,19 @@ sample-start line from =
     let e : f ≡ 45 ∷ g = minus-field line from t in
     let there : from + length f + 1 ≡ from + 1 + length g + 1 = rw e (omega arith) in
     rw (t, lt-ltb from (from + 1) (omega arith))
-    (ap sampleOf (left-next line from f refl (omega arith))
+    (ap readSample (left-next line from f refl (omega arith))
     ∙ ap (λ (s : Signed). ifSigned s (λ current. firstOf current (left line (from + length f + 1)))) (minus-signed line from t)
-    ∙ ap (λ (j : ℕ). startOf true (g ∷ left line j)) there
-    ∙ sym (ap (startOf true) (left-next line (from + 1) g refl (omega arith)))))
+    ∙ ap (λ (j : ℕ). readNumbers true (g ∷ left line j)) there
+    ∙ sym (ap (readNumbers true) (left-next line (from + 1) g refl (omega arith)))))
     (λ t.
     rw (t, le-ltb from from (omega arith))
     (by-order (length line) from
-    (λ h. ap sampleOf (left-none line from h) ∙ sym (ap (startOf false) (left-none line from h)))
+    (λ h. ap readSample (left-none line from h) ∙ sym (ap (readNumbers false) (left-none line from h)))
     (λ h.
     let f = fieldAt line from in
-    ap sampleOf (left-next line from f refl h)
+    ap readSample (left-next line from f refl h)
     ∙ ap (λ (s : Signed). ifSigned s (λ current. firstOf current (left line (from + length f + 1)))) (plain-signed line from t)
-    ∙ sym (ap (startOf false) (left-next line from f refl h)))))
+    ∙ sym (ap (readNumbers false) (left-next line from f refl h)))))
 
 -- The first m of them in turn, in place of the entries of `cells`.
 abbrev pub cellsTo : List ℕ → ℕ → List MilliVolts → List MilliVolts

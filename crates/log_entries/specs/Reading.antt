@@ -21,10 +21,10 @@ use Rattle.text_numbers.specs.declared.Signed.{Signed}
 use Rattle.text_numbers.specs.declared.Signed.the-variants as signed
 use Rattle.text_fields.specs.Finding.{lacks}
 use Rattle.text_fields.specs.Fields.{longer, fieldsOf, fieldAt}
-use Rattle.text_numbers.specs.Numbers.{numberOf, signedOf, signedText}
+use Rattle.text_numbers.specs.Numbers.{readNumber, readSigned, signedText}
 use Rattle.text_fields.specs.Spelling.{decimal-length, decimal-lacks}
 use Rattle.text_numbers.specs.Canonical.{InRange, number-text, signed-text}
-use Rattle.log_entries.specs.Entry.{malformed, command, ifNumber, ifSigned, commandOf, cellsFrom, secondOf, firstOf, sampleOf, isLetter, fieldsSay, entryOf}
+use Rattle.log_entries.specs.Entry.{malformed, command, ifNumber, ifSigned, readCommand, cellsFrom, secondOf, firstOf, readSample, isLetter, fieldsSay, readEntry}
 use Rattle.log_entries.specs.Left.{left, left-some, left-next}
 use Rattle.log_entries.specs.declared.Entry.{Entry}
 
@@ -73,7 +73,7 @@ record Neat (most : ℕ) (f : List ℕ) : Type 0 where
   few : length f ≤ most
   none : lacks 13 f ≡ true
 
-neat-number : (f : List ℕ) (v : ℕ) → numberOf f ≡ Value v → Neat 5 f
+neat-number : (f : List ℕ) (v : ℕ) → readNumber f ≡ Value v → Neat 5 f
 neat-number f v e =
     let t = number-text 65535 f v e in
     rw (t .0) (record { few = decimal-length 4 v (omega (arith, t .1)); none = decimal-lacks 13 (lit≤ tt) v })
@@ -89,7 +89,7 @@ neat-text (negsuc v) r =
     let l = decimal-length 4 (suc v) (omega arith) in
     record { few = omega arith; none = decimal-lacks 13 (lit≤ tt) (suc v) }
 
-neat-signed : (f : List ℕ) (z : ℤ) → signedOf f ≡ signed.Value z → Neat 6 f
+neat-signed : (f : List ℕ) (z : ℤ) → readSigned f ≡ signed.Value z → Neat 6 f
 neat-signed f z e = let t = signed-text f z e in rw (t .0) (neat-text z (t .1))
 
 -- ---- fields are malformed, or they take few bytes and have no carriage return
@@ -105,7 +105,7 @@ fine-more most part f fs n r = record { small = omega (arith, n .few, r .small);
 -- One number more in front.
 module _ (f : List ℕ) (fs : List (List ℕ)) (most : ℕ) (says : ℕ → Entry)
     (rest : (v : ℕ) → (says v ≡ malformed) ⊎ Fine most fs) where
-  number-fine : (n : Number) → numberOf f ≡ n → (ifNumber n says ≡ malformed) ⊎ Fine (6 + most) (f ∷ fs)
+  number-fine : (n : Number) → readNumber f ≡ n → (ifNumber n says ≡ malformed) ⊎ Fine (6 + most) (f ∷ fs)
   number-fine Malformed e = inl refl
   number-fine (Value v) e = ⊎-elim (λ z. inl z) (λ r. inr (fine-more most 5 f fs (neat-number f v e) r)) (rest v)
 
@@ -120,35 +120,35 @@ module _ (current : ℤ) (t1 t2 : ℕ) where
       let more : 6 + 6 * left ≡ 6 * suc left = omega arith in
       rw (lt-ltb k 10 (omega arith), ← more)
       (number-fine f fs (6 * left) (λ v. cellsFrom current t1 t2 (suc k) (set cells k (record { 0 = v })) fs)
-      (λ v. cells-fine left (suc k) (set cells k (record { 0 = v })) fs (omega arith)) (numberOf f) refl)
+      (λ v. cells-fine left (suc k) (set cells k (record { 0 = v })) fs (omega arith)) (readNumber f) refl)
 
 second-fine : (current : ℤ) (t1 : ℕ) (fs : List (List ℕ)) → (secondOf current t1 fs ≡ malformed) ⊎ Fine 66 fs
 unfolding secondOf
 second-fine current t1 [] = inl refl
 second-fine current t1 (f ∷ fs) =
     number-fine f fs 60 (λ t2. cellsFrom current t1 t2 0 (replicate 10 noVolts) fs)
-    (λ t2. cells-fine current t1 t2 10 0 (replicate 10 noVolts) fs refl) (numberOf f) refl
+    (λ t2. cells-fine current t1 t2 10 0 (replicate 10 noVolts) fs refl) (readNumber f) refl
 
 first-fine : (current : ℤ) (fs : List (List ℕ)) → (firstOf current fs ≡ malformed) ⊎ Fine 72 fs
 unfolding firstOf
 first-fine current [] = inl refl
-first-fine current (f ∷ fs) = number-fine f fs 66 (λ t1. secondOf current t1 fs) (λ t1. second-fine current t1 fs) (numberOf f) refl
+first-fine current (f ∷ fs) = number-fine f fs 66 (λ t1. secondOf current t1 fs) (λ t1. second-fine current t1 fs) (readNumber f) refl
 
-sample-fine : (fs : List (List ℕ)) → (sampleOf fs ≡ malformed) ⊎ Fine 79 fs
-unfolding sampleOf
+sample-fine : (fs : List (List ℕ)) → (readSample fs ≡ malformed) ⊎ Fine 79 fs
+unfolding readSample
 sample-fine [] = inl refl
-sample-fine (f ∷ fs) = by-value (signedOf f) refl
+sample-fine (f ∷ fs) = by-value (readSigned f) refl
   where
-    by-value : (n : Signed) → signedOf f ≡ n → (ifSigned n (λ current. firstOf current fs) ≡ malformed) ⊎ Fine 79 (f ∷ fs)
+    by-value : (n : Signed) → readSigned f ≡ n → (ifSigned n (λ current. firstOf current fs) ≡ malformed) ⊎ Fine 79 (f ∷ fs)
     by-value signed.Malformed e = inl refl
     by-value (signed.Value z) e = ⊎-elim (λ q. inl q) (λ r. inr (fine-more 72 6 f fs (neat-signed f z e) r)) (first-fine z fs)
 
-command-fine : (fs : List (List ℕ)) → (commandOf fs ≡ malformed) ⊎ Fine 79 fs
-unfolding commandOf spread clean
+command-fine : (fs : List (List ℕ)) → (readCommand fs ≡ malformed) ⊎ Fine 79 fs
+unfolding readCommand spread clean
 command-fine [] = inl refl
 command-fine (f ∷ []) =
     number-fine f [] 73 command
-    (λ c. inr (record { small = omega arith; none = refl })) (numberOf f) refl
+    (λ c. inr (record { small = omega arith; none = refl })) (readNumber f) refl
 command-fine (f ∷ g ∷ fs) = inl refl
 
 neat-letter : (c : ℕ) (f : List ℕ) → (c ≡ 13 → ⊥) → isLetter c f ≡ true → Neat 1 f
@@ -180,8 +180,8 @@ line-fine line =
     (fields-fine (fieldsOf line))
 
 -- The rows for a carriage return and for more than 128 bytes change no answer.
-pub rows-implied : (line : List ℕ) → entryOf line ≡ fieldsSay (fieldsOf line)
-unfolding entryOf
+pub rows-implied : (line : List ℕ) → readEntry line ≡ fieldsSay (fieldsOf line)
+unfolding readEntry
 rows-implied line =
     ⊎-elim
     (λ q. rw q (by-test (ltb 128 (length line)) (λ t. rw t) (λ t. rw t (by-test (lacks 13 line) (λ u. rw u) (λ u. rw u)))))
@@ -189,12 +189,12 @@ rows-implied line =
     (line-fine line)
 
 -- The longest line that is not malformed has 80 bytes.
-pub longest : (line : List ℕ) → (entryOf line ≡ malformed) ⊎ (length line ≤ 80)
+pub longest : (line : List ℕ) → (readEntry line ≡ malformed) ⊎ (length line ≤ 80)
 longest line = rw (rows-implied line) (⊎-elim (λ q. inl q) (λ r. inr (r .0)) (line-fine line))
 
 -- All lines over 128 bytes say the same.
-pub overlong : (line : List ℕ) → 128 < length line → entryOf line ≡ malformed
-unfolding entryOf
+pub overlong : (line : List ℕ) → 128 < length line → readEntry line ≡ malformed
+unfolding readEntry
 overlong line h = rw (lt-ltb 128 (length line) h)
 
 -- ---- the steps of the reader
@@ -213,7 +213,7 @@ no-tab (a ∷ b ∷ bs) n =
     by-test (eqb a 9) (λ t. rw t) (λ t. rw (t, ne-eqb b 9 n) (two-bytes a b (fieldsOf bs)))
 
 one-byte : (line : List ℕ) → length line < 2 → fieldsSay (fieldsOf line) ≡ malformed
-unfolding fieldsOf fieldsSay commandOf sampleOf
+unfolding fieldsOf fieldsSay readCommand readSample
 one-byte [] h = refl
 one-byte (a ∷ []) h =
     by-test (eqb a 9) (λ t. rw t)
@@ -222,39 +222,39 @@ one-byte (a ∷ b ∷ bs) h = absurd (omega arith)
 
 -- A letter and a tab, and what follows them.
 letter-tab : (a : ℕ) (bs : List ℕ)
-    → fieldsSay (fieldsOf (a ∷ 9 ∷ bs)) ≡ cond (eqb a 70) (commandOf (fieldsOf bs)) (cond (eqb a 83) (sampleOf (fieldsOf bs)) malformed)
+    → fieldsSay (fieldsOf (a ∷ 9 ∷ bs)) ≡ cond (eqb a 70) (readCommand (fieldsOf bs)) (cond (eqb a 83) (readSample (fieldsOf bs)) malformed)
 unfolding fieldsOf fieldsSay
 letter-tab a bs = by-test (eqb a 9) (λ t. rw (t, eqb-true a 9 t)) (λ t. rw t)
 
-pub line-short : (line : List ℕ) → length line < 2 → entryOf line ≡ malformed
+pub line-short : (line : List ℕ) → length line < 2 → readEntry line ≡ malformed
 line-short line h = rows-implied line ∙ one-byte line h
 
-pub line-other : (line : List ℕ) → 1 < length line → (getD line 1 0 ≡ 9 → ⊥) → entryOf line ≡ malformed
+pub line-other : (line : List ℕ) → 1 < length line → (getD line 1 0 ≡ 9 → ⊥) → readEntry line ≡ malformed
 line-other [] h n = absurd (omega arith)
 line-other (a ∷ []) h n = absurd (omega arith)
 line-other (a ∷ b ∷ bs) h n = rows-implied (a ∷ b ∷ bs) ∙ no-tab (a ∷ b ∷ bs) n
 
 pub line-letter : (line : List ℕ) → 1 < length line → getD line 1 0 ≡ 9
-    → entryOf line ≡ cond (eqb (getD line 0 0) 70) (commandOf (left line 2)) (cond (eqb (getD line 0 0) 83) (sampleOf (left line 2)) malformed)
+    → readEntry line ≡ cond (eqb (getD line 0 0) 70) (readCommand (left line 2)) (cond (eqb (getD line 0 0) 83) (readSample (left line 2)) malformed)
 line-letter [] h e = absurd (omega arith)
 line-letter (a ∷ []) h e = absurd (omega arith)
 line-letter (a ∷ b ∷ bs) h e =
     rows-implied (a ∷ b ∷ bs)
     ∙ ap (λ (c : ℕ). fieldsSay (fieldsOf (a ∷ c ∷ bs))) e
     ∙ letter-tab a bs
-    ∙ ap (λ (fs : List (List ℕ)). cond (eqb a 70) (commandOf fs) (cond (eqb a 83) (sampleOf fs) malformed)) (sym (left-some (a ∷ b ∷ bs) 2 (omega arith)))
+    ∙ ap (λ (fs : List (List ℕ)). cond (eqb a 70) (readCommand fs) (cond (eqb a 83) (readSample fs) malformed)) (sym (left-some (a ∷ b ∷ bs) 2 (omega arith)))
 
 -- A field f at a place of the line, where the command is to be read, and a tab behind it.
 pub command-over : (line : List ℕ) (at : ℕ) (f : List ℕ) → f ≡ fieldAt line at → at ≤ length line → length f < length line - at
-    → commandOf (left line at) ≡ malformed
-unfolding commandOf
+    → readCommand (left line at) ≡ malformed
+unfolding readCommand
 command-over line at f e h l =
     let k : at + length f + 1 ≤ length line = omega arith in
-    ap commandOf (left-next line at f e h ∙ ap (λ (fs : List (List ℕ)). f ∷ fs) (left-next line (at + length f + 1) _ refl k))
+    ap readCommand (left-next line at f e h ∙ ap (λ (fs : List (List ℕ)). f ∷ fs) (left-next line (at + length f + 1) _ refl k))
 
 -- The only field is a number.
-pub command-read : (f : List ℕ) (v : ℕ) → numberOf f ≡ Value v → commandOf (f ∷ []) ≡ command v
-unfolding commandOf
+pub command-read : (f : List ℕ) (v : ℕ) → readNumber f ≡ Value v → readCommand (f ∷ []) ≡ command v
+unfolding readCommand
 command-read f v e = rw e
 
 -- A field where a cell is to be read.
@@ -263,11 +263,11 @@ module _ (current : ℤ) (t1 t2 k : ℕ) (cells : List MilliVolts) (f : List ℕ
   unfolding cellsFrom
   cell-over h = rw (le-ltb k 10 h)
 
-  pub cell-none : k < 10 → numberOf f ≡ Malformed → cellsFrom current t1 t2 k cells (f ∷ fs) ≡ malformed
+  pub cell-none : k < 10 → readNumber f ≡ Malformed → cellsFrom current t1 t2 k cells (f ∷ fs) ≡ malformed
   unfolding cellsFrom
   cell-none h e = rw (lt-ltb k 10 h, e)
 
-  pub cell-next : (v : ℕ) → k < 10 → numberOf f ≡ Value v
+  pub cell-next : (v : ℕ) → k < 10 → readNumber f ≡ Value v
       → cellsFrom current t1 t2 k cells (f ∷ fs) ≡ cellsFrom current t1 t2 (k + 1) (set cells k (record { 0 = v })) fs
   unfolding cellsFrom
   cell-next v h e = rw (lt-ltb k 10 h, e, add-one)

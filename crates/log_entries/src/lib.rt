@@ -2,9 +2,9 @@
 ghost use mathlib.Core.Path.{_≡_};
 ghost use Prim.Native.Nat.{_+_, _≤_};
 ghost use lib.ListN.{length, getD};
-ghost use Rattle.log_entries.specs.Entry.{malformed, offer, commandOf, sampleOf, entryOf};
+ghost use Rattle.log_entries.specs.Entry.{malformed, offer, readCommand, readSample, readEntry};
 ghost use Rattle.log_entries.specs.Left.{left};
-ghost use Rattle.log_entries.specs.InTurn.{cellsOf, startOf};
+ghost use Rattle.log_entries.specs.InTurn.{cellsOf, readNumbers};
 use sample::Sample;
 use sample::no_sample;
 use text_number_at::FieldNumber;
@@ -44,7 +44,7 @@ fn no_entry() -> Entry
 
 // `F` has the command, and no other field.
 fn read_command(line: &[u8], at: usize) -> Entry
-    ensures { λ r. ⌜ r ≡ commandOf (left (now (line .entry)) at) ⌝ }
+    ensures { λ r. ⌜ r ≡ readCommand (left (now (line .entry)) at) ⌝ }
 {
     let n = line.len();
     if n < at {
@@ -91,7 +91,7 @@ fn offered(current: i16, numbers: [u16; 13], count: u8) -> Entry
 // The numbers of an `S` line, whose fields from `from` on are read alike, thirteen at most; `below` says that a minus stands before them.
 fn read_numbers(line: &[u8], from: usize, below: bool) -> Entry
     requires { ⌜ from ≤ length (now line) + 1 ⌝ }
-    ensures { λ r. ⌜ r ≡ startOf below (left (now (line .entry)) from) ⌝ }
+    ensures { λ r. ⌜ r ≡ readNumbers below (left (now (line .entry)) from) ⌝ }
 {
     let mut numbers: [u16; 13] = [0; 13];
     let mut count: usize = 0;
@@ -121,7 +121,7 @@ fn read_numbers(line: &[u8], from: usize, below: bool) -> Entry
 // `S` has current, temperature 1, temperature 2 and the cells; only the current may have a minus.
 fn read_sample(line: &[u8], from: usize) -> Entry
     requires { ⌜ from ≤ length (now line) + 1 ⌝ }
-    ensures { λ r. ⌜ r ≡ sampleOf (left (now (line .entry)) from) ⌝ }
+    ensures { λ r. ⌜ r ≡ readSample (left (now (line .entry)) from) ⌝ }
 {
     let start = past_minus(line, from);
     read_numbers(line, start, from < start)
@@ -129,7 +129,7 @@ fn read_sample(line: &[u8], from: usize) -> Entry
 
 // What a line says. A carriage return is in no field that can be read, so that it is not looked for.
 pub fn read_entry(line: &[u8]) -> Entry
-    ensures { λ r. ⌜ r ≡ entryOf (now (line .entry)) ⌝ }
+    ensures { λ r. ⌜ r ≡ readEntry (now (line .entry)) ⌝ }
 {
     if 128 < line.len() {
         return no_entry();

@@ -16,33 +16,33 @@ abbrev pub enough : ℕ
 enough = 129
 
 -- the bytes that are carried on: all while lines wait in them, and else the first 129, since a line over 128 bytes is as good as its first 129
-abbrev pub keptOf : Bool → List ℕ → List ℕ
-keptOf true x = take enough x
-keptOf false x = x
+abbrev pub kept : Bool → List ℕ → List ℕ
+kept true x = take enough x
+kept false x = x
 
 -- how many they are
-unfoldable pub carriedOf : Bool → ℕ → ℕ
-carriedOf done n = cond done (cond (ltb enough n) enough n) n
+unfoldable pub carried : Bool → ℕ → ℕ
+carried done n = cond done (cond (ltb enough n) enough n) n
 
 -- the buffer d with count of its bytes moved from from on to the front; where it has not so many, it stays
-unfoldable pub movedDown : List ℕ → ℕ → ℕ → List ℕ
-movedDown d from count = cond (leb (from + count) (length d)) (take count (drop from d) ++ drop count d) d
+unfoldable pub moveDown : List ℕ → ℕ → ℕ → List ℕ
+moveDown d from count = cond (leb (from + count) (length d)) (take count (drop from d) ++ drop count d) d
 
-pub carried-few : (done : Bool) (n : ℕ) → carriedOf done n ≤ n
-unfolding carriedOf
+pub carried-few : (done : Bool) (n : ℕ) → carried done n ≤ n
+unfolding carried
 carried-few false n = omega arith
 carried-few true n =
     by-test (ltb enough n) (λ t. rw t (let k = ltb-true enough n t in omega arith)) (λ t. rw t (omega arith))
 
 -- where no newline is left, at most 129 bytes are carried on
-pub carried-little : (done : Bool) (n : ℕ) → done ≡ true → carriedOf done n ≤ 129
-unfolding carriedOf
+pub carried-little : (done : Bool) (n : ℕ) → done ≡ true → carried done n ≤ 129
+unfolding carried
 carried-little false n e = absurd (true≢false (sym e))
 carried-little true n e =
     by-test (ltb enough n) (λ t. rw t (omega arith)) (λ t. rw t (let k = ltb-false enough n t in omega arith))
 
-kept-take : (done : Bool) (n : ℕ) (x : List ℕ) → take (carriedOf done n) x ≡ keptOf done (take n x)
-unfolding carriedOf
+kept-take : (done : Bool) (n : ℕ) (x : List ℕ) → take (carried done n) x ≡ kept done (take n x)
+unfolding carried
 kept-take false n x = refl
 kept-take true n x =
     by-test (ltb enough n)
@@ -84,26 +84,26 @@ moved-on d from i e h m =
     tail-of i a b q = let z : suc i ≡ i + 1 = omega arith in rw z (sym (drop-drop 1 i a) ∙ ap (drop 1) q ∙ drop-drop 1 i b)
 
 -- all were moved
-pub moved-end : (d : List ℕ) (from count : ℕ) (e : List ℕ) → from + count ≤ length d → Moved d from count e → e ≡ movedDown d from count
-unfolding movedDown
+pub moved-end : (d : List ℕ) (from count : ℕ) (e : List ℕ) → from + count ≤ length d → Moved d from count e → e ≡ moveDown d from count
+unfolding moveDown
 moved-end d from count e h m =
     rw (le-leb (from + count) (length d) h)
     (sym (take-append-drop count e) ∙ ap₂ (λ (a b : List ℕ). a ++ b) (m .front) (m .rest))
 
 -- there were not so many
-pub moved-not : (d : List ℕ) (from count : ℕ) → length d < from + count → d ≡ movedDown d from count
-unfolding movedDown
+pub moved-not : (d : List ℕ) (from count : ℕ) → length d < from + count → d ≡ moveDown d from count
+unfolding moveDown
 moved-not d from count h = rw (lt-leb (from + count) (length d) h)
 
 -- the front of the buffer, once the rest of the waiting bytes was moved there, is what had to be kept of them
 pub moved-kept : (buf : List ℕ) (have used : ℕ) (done : Bool) → have ≤ length buf → used ≤ have
-    → take (carriedOf done (have - used)) (movedDown buf used (carriedOf done (have - used))) ≡ keptOf done (drop used (take have buf))
-unfolding movedDown
+    → take (carried done (have - used)) (moveDown buf used (carried done (have - used))) ≡ kept done (drop used (take have buf))
+unfolding moveDown
 moved-kept buf have used done h u =
-    let n : ℕ = carriedOf done (have - used) in
+    let n : ℕ = carried done (have - used) in
     let k = carried-few done (have - used) in
     let room : used + n ≤ length buf = omega arith in
     let len : length (take n (drop used buf)) ≡ n = length-take-le n (drop used buf) (rw length-drop (omega arith)) in
     rw (le-leb (used + n) (length buf) room)
     (take-at (take n (drop used buf)) (drop n buf) n len ∙ kept-take done (have - used) (drop used buf)
-    ∙ ap (keptOf done) (sym (drop-take used have buf u h)))
+    ∙ ap (kept done) (sym (drop-take used have buf u h)))

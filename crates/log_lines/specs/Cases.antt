@@ -6,7 +6,7 @@ use mathlib.Core.List.{List, [], _∷_, _++_}
 use lib.ListN.{length, replicate}
 use Rattle.text_fields.specs.Finding.{before}
 use Rattle.log_lines.specs.Lines.{linesOf, nextLine}
-use Rattle.log_lines.specs.Carrying.{carriedOf, movedDown}
+use Rattle.log_lines.specs.Carrying.{carried, moveDown}
 use Rattle.log_lines.specs.Walking.{whole}
 use Rattle.log_lines.specs.Folded.{behindLines, behindLog}
 use Rattle.log_lines.specs.Run.{closing, Round, readIn, writtenIn, stateBehind, heldBehind, doneBehind}
@@ -36,13 +36,13 @@ unfolding nextLine before
 long = (refl, refl)
 
 -- 129 bytes are carried on of a line that did not end, and all where lines wait
-pub carries : (carriedOf true 128 ≡ 128) × (carriedOf true 129 ≡ 129) × (carriedOf true 500 ≡ 129) × (carriedOf false 500 ≡ 500)
-unfolding carriedOf
+pub carries : (carried true 128 ≡ 128) × (carried true 129 ≡ 129) × (carried true 500 ≡ 129) × (carried false 500 ≡ 500)
+unfolding carried
 carries = (refl, refl, refl, refl)
 
 -- two bytes from place 1 on, and two from place 3 on, which there are not
-pub moves : (movedDown (1 ∷ 2 ∷ 3 ∷ 4 ∷ []) 1 2 ≡ 2 ∷ 3 ∷ 3 ∷ 4 ∷ []) × (movedDown (1 ∷ 2 ∷ 3 ∷ 4 ∷ []) 3 2 ≡ 1 ∷ 2 ∷ 3 ∷ 4 ∷ [])
-unfolding movedDown
+pub moves : (moveDown (1 ∷ 2 ∷ 3 ∷ 4 ∷ []) 1 2 ≡ 2 ∷ 3 ∷ 3 ∷ 4 ∷ []) × (moveDown (1 ∷ 2 ∷ 3 ∷ 4 ∷ []) 3 2 ≡ 1 ∷ 2 ∷ 3 ∷ 4 ∷ [])
+unfolding moveDown
 moves = (refl, refl)
 
 -- the lines counted, each answered by its number and a newline

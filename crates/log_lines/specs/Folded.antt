@@ -11,7 +11,7 @@ use lib.Seq.{length-take-le, take-all}
 use borrow.Author.Tests.{ltb-true, ltb-false}
 use Rattle.laws.specs.Tests.{by-test}
 use Rattle.log_lines.specs.Lines.{linesOf, plain}
-use Rattle.log_lines.specs.Carrying.{enough, keptOf}
+use Rattle.log_lines.specs.Carrying.{enough, kept}
 use Rattle.log_lines.specs.Walking.{onto, lines-onto, lines-line, plain-take}
 
 -- next: the state behind a line
@@ -88,6 +88,6 @@ module _ {S : Type 0} (next : S → List ℕ → S) where
 
     -- What is carried on.
     pub passed-kept : (s₀ : S) (read : List ℕ) (s : S) (held : List ℕ) (done : Bool) → done ≡ plain held
-        → Passed s₀ read s held → Passed s₀ read s (keptOf done held)
+        → Passed s₀ read s held → Passed s₀ read s (kept done held)
     passed-kept s₀ read s held true p k = record { keeps = λ more. k .keeps more ∙ cut-right s held more (sym p) }
     passed-kept s₀ read s held false p k = k

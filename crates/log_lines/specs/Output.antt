@@ -5,7 +5,7 @@ use mathlib.Core.Bool.{Bool}
 use mathlib.Core.List.{List, [], _∷_, _++_, append-assoc, append-nil}
 use lib.ListN.{length}
 use Rattle.log_lines.specs.Lines.{linesOf, plain}
-use Rattle.log_lines.specs.Carrying.{keptOf}
+use Rattle.log_lines.specs.Carrying.{kept}
 use Rattle.log_lines.specs.Folded as fold
 
 -- What was written so far, and the state behind it.
@@ -95,7 +95,7 @@ module _ {S : Type 0} (next : S → List ℕ → S) (answer : S → List ℕ →
 
   -- What is carried on.
   pub sofar-kept : Alike → (s₀ : S) (read o : List ℕ) (s : S) (held : List ℕ) (done : Bool) → done ≡ plain held
-      → Sofar s₀ read o s held → Sofar s₀ read o s (keptOf done held)
+      → Sofar s₀ read o s held → Sofar s₀ read o s (kept done held)
   sofar-kept alike s₀ read o s held =
       fold.passed-kept withAnswer
       (λ w l m h k. let a = alike (w .state) l m h k in ap₂ (λ (t : List ℕ) (z : S). written (w .text ++ t) z) (a .1) (a .0))

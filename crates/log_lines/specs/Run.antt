@@ -12,7 +12,7 @@ use borrow.Author.Tests.{le-ltb, eqb-true, ne-eqb}
 use Rattle.laws.specs.Tests.{by-test}
 use Rattle.text_fields.specs.Finding.{lacks}
 use Rattle.log_lines.specs.Lines.{linesOf, plain}
-use Rattle.log_lines.specs.Carrying.{enough, keptOf, carriedOf, movedDown, moved-kept, carried-few}
+use Rattle.log_lines.specs.Carrying.{enough, kept, carried, moveDown, moved-kept, carried-few}
 use Rattle.log_lines.specs.Walking.{lines-line, lines-rest, plain-take, whole, whole-none, whole-line}
 use Rattle.log_lines.specs.Folded.{behindLines, behindLog}
 use Rattle.log_lines.specs.Output.{answers, output, Alike, Sofar, sofar-start, sofar-read, sofar-then, sofar-end, sofar-kept}
@@ -69,8 +69,8 @@ module _ {S : Type 0} (next : S → List ℕ → S) (answer : S → List ℕ →
   -- chunk of its bytes, how many of them wait, and that these were moved to the front.
   pub record Feed (buf d : List ℕ) (s : S) (done : Bool) (used held written : ℕ) (k : S) (buf′ e : List ℕ) : Type 0 where
     pub chunk : AnswerChunk next answer room buf d s done used written k e
-    pub carries : held ≡ carriedOf done (length buf - used)
-    pub moved : buf′ ≡ movedDown buf used held
+    pub carries : held ≡ carried done (length buf - used)
+    pub moved : buf′ ≡ moveDown buf used held
     pub few : held ≤ length buf
     pub wrote : written ≤ length e
 
@@ -83,17 +83,17 @@ module _ {S : Type 0} (next : S → List ℕ → S) (answer : S → List ℕ →
 
   module _ (buf d : List ℕ) (s : S) (done : Bool) (used held written : ℕ) (k : S) (buf′ e : List ℕ) where
     -- A buffer was fed.
-    pub feed-made : AnswerChunk next answer room buf d s done used written k e → held ≡ carriedOf done (length buf - used)
-        → buf′ ≡ movedDown buf used held → Feed buf d s done used held written k buf′ e
+    pub feed-made : AnswerChunk next answer room buf d s done used written k e → held ≡ carried done (length buf - used)
+        → buf′ ≡ moveDown buf used held → Feed buf d s done used held written k buf′ e
     feed-made c h m =
         record { chunk = c; carries = h; moved = m; few = let z = carried-few done (length buf - used) in omega arith; wrote = c .fits }
 
     module _ (f : Feed buf d s done used held written k buf′ e) where
-      fed-kept : take held buf′ ≡ keptOf done (drop used buf)
+      fed-kept : take held buf′ ≡ kept done (drop used buf)
       fed-kept =
           rw (f .moved, f .carries)
           (moved-kept buf (length buf) used done (le-refl (length buf)) (f .chunk .inside)
-          ∙ ap (λ (z : List ℕ). keptOf done (drop used z)) (take-length buf))
+          ∙ ap (λ (z : List ℕ). kept done (drop used z)) (take-length buf))
 
       -- As a step of the run.
       pub sofar-fed : Alike next answer → (s₀ : S) (read o : List ℕ) → Sofar next answer s₀ read o s buf
@@ -107,7 +107,7 @@ module _ {S : Type 0} (next : S → List ℕ → S) (answer : S → List ℕ →
       pub fed-plain : done ≡ true → plain (take held buf′) ≡ true
       fed-plain t = ap plain fed-kept ∙ by-done done (drop used buf) (f .chunk .ended) t
         where
-          by-done : (d : Bool) (x : List ℕ) → d ≡ plain x → d ≡ true → plain (keptOf d x) ≡ true
+          by-done : (d : Bool) (x : List ℕ) → d ≡ plain x → d ≡ true → plain (kept d x) ≡ true
           by-done true x e t = plain-take enough x (sym e)
           by-done false x e t = absurd (true≢false (sym t))
 

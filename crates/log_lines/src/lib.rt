@@ -2,7 +2,7 @@
 ghost use mathlib.Core.Path.{_≡_};
 ghost use Prim.Native.Nat.{_≤_};
 ghost use Rattle.log_lines.specs.Lines.{nextLine};
-ghost use Rattle.log_lines.specs.Carrying.{carriedOf, movedDown};
+ghost use Rattle.log_lines.specs.Carrying.{carried, moveDown};
 
 // The next line of a buffer.
 pub enum NextLine {
@@ -30,7 +30,7 @@ pub fn next_line(bytes: &[u8], from: usize) -> NextLine
 // How many of the bytes that are left are carried on to the next read: all while lines wait in them; where no newline is left (`done`),
 // 129 are enough, since a line over 128 bytes is as good as its first 129.
 pub fn carried(done: bool, left: usize) -> usize
-    ensures { λ r. ⌜ r ≡ carriedOf done left ⌝ }
+    ensures { λ r. ⌜ r ≡ carried done left ⌝ }
     ensures { λ r. ⌜ r ≤ left ⌝ }
 {
     if done {
@@ -43,7 +43,7 @@ pub fn carried(done: bool, left: usize) -> usize
 
 // Moves `count` bytes from `from` on to the front; a buffer that has not so many stays as it is.
 pub fn move_down(buf: &mut [u8], from: usize, count: usize)
-    ensures { λ _. ⌜ now (buf .exit) ≡ movedDown (now (buf .entry)) from count ⌝ }
+    ensures { λ _. ⌜ now (buf .exit) ≡ moveDown (now (buf .entry)) from count ⌝ }
 {
     let n = buf.len();
     if n < count {

@@ -29,9 +29,9 @@ unfoldable pub refusedText : ℕ → List ℕ
 refusedText number = lineOf (quoted "refused" ∷ decimal number ∷ [])
 
 -- What a line is answered with.
-abbrev pub textOf : Told → List ℕ
-textOf (Decided d) = decisionText d
-textOf (Refused number) = refusedText number
+abbrev pub toldText : Told → List ℕ
+toldText (Decided d) = decisionText d
+toldText (Refused number) = refusedText number
 
 -- What is written before the lines: "Otherwise a header".
 abbrev pub openingText : Verdict → List ℕ

@@ -2,7 +2,7 @@
 ghost use Prim.Native.Nat.{_+_, _≤_};
 ghost use lib.ListN.{length};
 ghost use Rattle.text_writing.specs.Placing.{Put};
-ghost use Rattle.log_texts.specs.Texts.{fieldText, decisionText, refusedText, pageText, textOf};
+ghost use Rattle.log_texts.specs.Texts.{fieldText, decisionText, refusedText, pageText, toldText};
 ghost use Rattle.log_texts.specs.Writing.{frontText, backText};
 ghost use Rattle.log_texts.specs.Room.{room, roomed, Opened};
 use log_answers::Told;
@@ -63,8 +63,8 @@ fn put_refused(out: &mut [u8], at: usize, number: u8) -> usize
 // Puts the text of an answer at `at` and answers the place behind it; where the longest answer has no room nothing is written and the
 // answer is `at`.
 pub fn put_told(out: &mut [u8], at: usize, t: Told) -> usize
-    ensures { λ r. ⌜ Put (now (out .entry)) at (roomed (length (now (out .entry))) at (textOf t)) r (now (out .exit)) ⌝ }
-    ensures { λ _. ⌜ length (roomed (length (now (out .entry))) at (textOf t)) ≤ room ⌝ }
+    ensures { λ r. ⌜ Put (now (out .entry)) at (roomed (length (now (out .entry))) at (toldText t)) r (now (out .exit)) ⌝ }
+    ensures { λ _. ⌜ length (roomed (length (now (out .entry))) at (toldText t)) ≤ room ⌝ }
 {
     if out.len() < ROOM {
         return at;

@@ -8,16 +8,16 @@ use Rattle.page_judge.specs.Page.{judged}
 use Rattle.refusals.specs.declared.Verdict.the-variants.{Accepted}
 use Rattle.page_settings.specs.Good.{Good, accepted-good}
 use Rattle.sample.specs.declared.Sample.{Sample}
-use Rattle.bleed_wants.specs.Word.{inWord}
+use Rattle.bleed_wants.specs.Word.{holdsCell}
 use Rattle.bleed.specs.Walk.History.{resting, startCell}
 use Rattle.pack_state.specs.declared.Pack.{Pack}
-use Rattle.pack_state.specs.State.{bledsAfter, stateOf}
+use Rattle.pack_state.specs.State.{bledsAfter, stateAfter}
 use Rattle.pack_state.specs.Past.{past}
 use Rattle.pack_state.specs.Steps.{state-fresh, begun-is, rested-is}
 use Rattle.pack.specs.declared.Answered.{Answered}
 use Rattle.pack.specs.Events.{Event, offer, command, pastOf}
 use Rattle.pack.specs.Answers.{offered, commanded}
-use Rattle.pack.specs.Kept.{pageOf, pastAfter, stateAfter, afterLoad}
+use Rattle.pack.specs.Kept.{pageOf, pastAfter, packAfter, afterLoad}
 use Rattle.pack.specs.Calls.{page-accepted, offered-is, commanded-is}
 
 -- The pack after a load and a list of calls, one after the other.
@@ -27,8 +27,8 @@ after bytes (offer s ∷ es) = offered (after bytes es) s .pack
 after bytes (command c ∷ es) = commanded (after bytes es) c .pack
 
 -- It is the state that the page and the past say, every field of it.
-pub after-is : (bytes : List ℕ) (es : List Event) → after bytes es ≡ stateAfter bytes es
-unfolding afterLoad stateAfter pastOf
+pub after-is : (bytes : List ℕ) (es : List Event) → after bytes es ≡ packAfter bytes es
+unfolding afterLoad packAfter pastOf
 after-is bytes [] = state-fresh (pageOf bytes)
 after-is bytes (offer s ∷ es) =
     ap (λ (p : Pack). offered p s .pack) (after-is bytes es) ∙ ap (λ (a : Answered). a .pack) (offered-is bytes es s)
@@ -42,9 +42,9 @@ module _ (bytes : List ℕ) (taken : judged bytes ≡ Accepted) (es : List Event
   good : Good (pageOf bytes)
   good = rw (page-accepted bytes taken) (accepted-good bytes taken)
 
-  is : after bytes es ≡ stateOf (pageOf bytes) (past (s ∷ h) (pastAfter bytes es .standing))
-  unfolding stateAfter
-  is = after-is bytes es ∙ ap (λ (l : List Sample). stateOf (pageOf bytes) (past l (pastAfter bytes es .standing))) latest
+  is : after bytes es ≡ stateAfter (pageOf bytes) (past (s ∷ h) (pastAfter bytes es .standing))
+  unfolding packAfter
+  is = after-is bytes es ∙ ap (λ (l : List Sample). stateAfter (pageOf bytes) (past l (pastAfter bytes es .standing))) latest
 
   -- The start cell of that sample;
   pub begun-after : after bytes es .balance .begun .0 ≡ startCell (pageOf bytes .rules .n) (length h)
@@ -52,6 +52,6 @@ module _ (bytes : List ℕ) (taken : judged bytes ≡ Accepted) (es : List Event
 
   -- bit k - 1 of `rested` is set exactly if cell k was resting at it.
   pub rested-after : (k : ℕ) → 1 ≤ k → k ≤ pageOf bytes .rules .n
-      → inWord (after bytes es .balance .rested) k ≡ resting (pageOf bytes .rules .r) (bledsAfter (pageOf bytes) h) k
+      → holdsCell (after bytes es .balance .rested) k ≡ resting (pageOf bytes .rules .r) (bledsAfter (pageOf bytes) h) k
   rested-after k first last =
-      ap (λ (p : Pack). inWord (p .balance .rested) k) is ∙ rested-is (pageOf bytes) good s h (pastAfter bytes es .standing) k first last
+      ap (λ (p : Pack). holdsCell (p .balance .rested) k) is ∙ rested-is (pageOf bytes) good s h (pastAfter bytes es .standing) k first last

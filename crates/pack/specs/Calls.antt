@@ -20,12 +20,12 @@ use Rattle.page_settings.specs.declared.Loaded.{Loaded}
 use Rattle.page_settings.specs.Settings.{settingsOf, noSettings, loadedOf, loadedWith}
 use Rattle.page_settings.specs.Good.{Good, accepted-good}
 use Rattle.pack_state.specs.declared.Pack.{Pack}
-use Rattle.pack_state.specs.State.{stateOf, freshPack, acceptedPack}
+use Rattle.pack_state.specs.State.{stateAfter, freshPack, acceptedPack}
 use Rattle.pack_state.specs.Steps.{state-next, state-fresh}
 use Rattle.pack.specs.declared.Answered.{Answered}
 use Rattle.pack.specs.Events.{Event, offer, command, accepts, withEvent, pastOf}
 use Rattle.pack.specs.Answers.{answered, offered, withCommand, commanded}
-use Rattle.pack.specs.Kept.{pageOf, pastAfter, stateAfter, Kept, afterLoad}
+use Rattle.pack.specs.Kept.{pageOf, pastAfter, packAfter, Kept, afterLoad}
 
 -- ---- a pack that accepts anything has an accepted page
 
@@ -54,8 +54,8 @@ sample-some n s = some-if n (sampleVerdict n s) (λ z. ap accepts (sample-none n
 
 -- Offering a sample.
 pub offered-is : (bytes : List ℕ) (es : List Event) (s : Sample)
-    → offered (stateAfter bytes es) s ≡ answered (sampleVerdict (pageOf bytes .rules .n) s) (stateAfter bytes (offer s ∷ es))
-unfolding offered stateAfter stateOf pastOf withEvent
+    → offered (packAfter bytes es) s ≡ answered (sampleVerdict (pageOf bytes .rules .n) s) (packAfter bytes (offer s ∷ es))
+unfolding offered packAfter stateAfter pastOf withEvent
 offered-is bytes es s =
     by-test (accepts (sampleVerdict (pageOf bytes .rules .n) s))
     (λ t. rw t (ap (answered (sampleVerdict (pageOf bytes .rules .n) s))
@@ -64,15 +64,15 @@ offered-is bytes es s =
 
 -- Commanding the switches.
 pub commanded-is : (bytes : List ℕ) (es : List Event) (c : ℕ)
-    → commanded (stateAfter bytes es) c ≡ answered (commandVerdict c) (stateAfter bytes (command c ∷ es))
-unfolding commanded withCommand stateAfter stateOf pastOf withEvent
+    → commanded (packAfter bytes es) c ≡ answered (commandVerdict c) (packAfter bytes (command c ∷ es))
+unfolding commanded withCommand packAfter stateAfter pastOf withEvent
 commanded-is bytes es c =
     by-test (accepts (commandVerdict c)) (λ t. rw t) (λ t. rw t)
 
 -- ---- what each call hands on
 
 pub kept-load : (bytes : List ℕ) → Kept (afterLoad bytes .pack)
-unfolding afterLoad stateAfter pastOf
+unfolding afterLoad packAfter pastOf
 kept-load bytes = record { bytes = bytes; events = []; is = state-fresh (pageOf bytes) }
 
 pub kept-offer : (p : Pack) (s : Sample) → Kept p → Kept (offered p s .pack)

@@ -7,7 +7,7 @@ use Rattle.page_settings.specs.declared.Settings.{Settings}
 use Rattle.page_settings.specs.Settings.{loadedOf}
 use Rattle.pack_state.specs.declared.Pack.{Pack}
 use Rattle.pack_state.specs.Past.{Past}
-use Rattle.pack_state.specs.State.{stateOf, freshPack}
+use Rattle.pack_state.specs.State.{stateAfter, freshPack}
 use Rattle.pack.specs.declared.Answered.{Answered}
 use Rattle.pack.specs.Events.{Event, pastOf}
 use Rattle.pack.specs.Answers.{answered}
@@ -21,14 +21,14 @@ abbrev pub pastAfter : List ℕ → List Event → Past
 pastAfter bytes es = pastOf (pageOf bytes .rules .n) es
 
 -- The state after a load of these bytes and these events, the latest first, refused ones among them.
-unfoldable pub stateAfter : List ℕ → List Event → Pack
-stateAfter bytes es = stateOf (pageOf bytes) (pastAfter bytes es)
+unfoldable pub packAfter : List ℕ → List Event → Pack
+packAfter bytes es = stateAfter (pageOf bytes) (pastAfter bytes es)
 
 -- The state stands for some load and some events since.
 pub record Kept (p : Pack) : Type 0 where
   pub bytes : List ℕ
   pub events : List Event
-  pub is : p ≡ stateAfter bytes events
+  pub is : p ≡ packAfter bytes events
 
 -- What a load answers.
 unfoldable pub afterLoad : List ℕ → Answered

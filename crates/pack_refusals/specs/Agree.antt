@@ -11,7 +11,7 @@ use borrow.Author.Tests.{ltb-true, ltb-false}
 use Rattle.laws.specs.Tests.{by-test}
 use Rattle.laws.specs.Each.{eachTo, each-length, each-below}
 use Rattle.units.specs.declared.MilliVolts.{MilliVolts}
-use Rattle.units.specs.Cells.{lookedAt}
+use Rattle.units.specs.Cells.{tenAtMost}
 use Rattle.sample.specs.Cells.{noVolts}
 use Rattle.sample.specs.declared.Sample.{Sample}
 use Rattle.pack_refusals.specs.Samples.{cellsFit, sampleRefusals, sampleVerdict, keptCell, trimmed}
@@ -29,14 +29,14 @@ unfolding cellsFit
 fit-same a b zero same = refl
 fit-same a b (suc k) same = rw (fit-same a b k (λ i h. same i (omega arith)), same k (omega arith))
 
-looked-within : (count : ℕ) → lookedAt count ≤ count
+looked-within : (count : ℕ) → tenAtMost count ≤ count
 looked-within count = by-test (ltb count 10) (λ e. rw e (omega arith)) (λ e. rw e (ltb-false count 10 e))
 
 module _ (s t : Sample) (agree : Agree s t) where
-  cells-same : cellsFit (s .cells) (lookedAt (s .count)) ≡ cellsFit (t .cells) (lookedAt (t .count))
+  cells-same : cellsFit (s .cells) (tenAtMost (s .count)) ≡ cellsFit (t .cells) (tenAtMost (t .count))
   cells-same =
-      fit-same (s .cells) (t .cells) (lookedAt (s .count)) (λ i h. agree .cells i (let m = looked-within (s .count) in omega arith))
-      ∙ ap (λ (c : ℕ). cellsFit (t .cells) (lookedAt c)) (agree .count)
+      fit-same (s .cells) (t .cells) (tenAtMost (s .count)) (λ i h. agree .cells i (let m = looked-within (s .count) in omega arith))
+      ∙ ap (λ (c : ℕ). cellsFit (t .cells) (tenAtMost c)) (agree .count)
 
   kept : (i : ℕ) → keptCell (s .count) i (getD (s .cells) i noVolts) ≡ keptCell (t .count) i (getD (t .cells) i noVolts)
   unfolding keptCell

@@ -8,7 +8,7 @@ use Rattle.laws.specs.Each.{eachTo}
 use Rattle.page_words.specs.Ranges.{within}
 use Rattle.refusals.specs.Answers.{answerOf}
 use Rattle.refusals.specs.Refusals.{answer}
-use Rattle.sample.specs.Cases.{minus, sampled}
+use Rattle.sample.specs.Cases.{belowZero, sampled}
 use Rattle.sample.specs.declared.Sample.{Sample}
 use Rattle.pack_refusals.specs.Samples.{cellsFit, sampleRefusals, sampleVerdict, commandRefusals, commandVerdict, keptCell, trimmed}
 
@@ -18,7 +18,7 @@ numbers n ss = map (λ s. answerOf (sampleVerdict n s) .number) ss
 
 -- A sample of two cells; the third and the tenth entry are no cells.
 abbrev two : ℕ → ℕ → ℕ → ℕ → Sample
-two a b t1 t2 = sampled 2 (a ∷ b ∷ 65535 ∷ 0 ∷ 0 ∷ 0 ∷ 0 ∷ 0 ∷ 0 ∷ 65535 ∷ []) (minus 32768) t1 t2
+two a b t1 t2 = sampled 2 (a ∷ b ∷ 65535 ∷ 0 ∷ 0 ∷ 0 ∷ 0 ∷ 0 ∷ 0 ∷ 65535 ∷ []) (belowZero 32768) t1 t2
 
 -- "Cell 6000 taken, 6001 gives 10. Temperature 2000 and 4500 taken, 1999 and 4501 give 11": each cell and both temperatures.
 pub limits
@@ -86,6 +86,6 @@ unfolding sampleVerdict sampleRefusals cellsFit within
 word-0 = refl
 
 -- Of an accepted sample the cells are kept, and 0 past them; all else is kept as it is.
-pub kept : trimmed (two 4001 4002 2981 2992) ≡ sampled 2 (4001 ∷ 4002 ∷ 0 ∷ 0 ∷ 0 ∷ 0 ∷ 0 ∷ 0 ∷ 0 ∷ 0 ∷ []) (minus 32768) 2981 2992
+pub kept : trimmed (two 4001 4002 2981 2992) ≡ sampled 2 (4001 ∷ 4002 ∷ 0 ∷ 0 ∷ 0 ∷ 0 ∷ 0 ∷ 0 ∷ 0 ∷ 0 ∷ []) (belowZero 32768) 2981 2992
 unfolding trimmed eachTo keptCell
 kept = refl

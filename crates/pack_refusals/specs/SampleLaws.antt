@@ -15,7 +15,7 @@ use Rattle.refusals.specs.Answers.{answerOf}
 use Rattle.refusals.specs.Refusals.{given, first-map}
 use Rattle.refusals.specs.declared.Verdict.{Verdict}
 use Rattle.refusals.specs.declared.Verdict.the-variants.{Accepted, Refused}
-use Rattle.units.specs.Cells.{lookedAt}
+use Rattle.units.specs.Cells.{tenAtMost}
 use Rattle.sample.specs.Cells.{noVolts}
 use Rattle.sample.specs.declared.Sample.{Sample}
 use Rattle.pack_refusals.specs.Samples.{cellFits, cellsFit, sampleRefusals, sampleVerdict, temperaturesVerdict, commandRefusals, commandVerdict, exact-count}
@@ -58,11 +58,11 @@ module _ (n : ℕ) (s : Sample) where
   unfolding sampleVerdict sampleRefusals
   sample-count h ne = rw (exact-count n (s .count) h, ne-eqb (s .count) n ne)
 
-  pub sample-cells : 0 < n → s .count ≡ n → cellsFit (s .cells) (lookedAt (s .count)) ≡ false → sampleVerdict n s ≡ Refused 10 0
+  pub sample-cells : 0 < n → s .count ≡ n → cellsFit (s .cells) (tenAtMost (s .count)) ≡ false → sampleVerdict n s ≡ Refused 10 0
   unfolding sampleVerdict sampleRefusals
   sample-cells h e t = rw (exact-count n (s .count) h, eq-eqb (s .count) n e, t)
 
-  pub sample-last : 0 < n → s .count ≡ n → cellsFit (s .cells) (lookedAt (s .count)) ≡ true
+  pub sample-last : 0 < n → s .count ≡ n → cellsFit (s .cells) (tenAtMost (s .count)) ≡ true
       → sampleVerdict n s ≡ temperaturesVerdict (s .t1 .0) (s .t2 .0)
   unfolding sampleVerdict sampleRefusals temperaturesVerdict
   sample-last h e t = rw (exact-count n (s .count) h, eq-eqb (s .count) n e, t)

@@ -13,7 +13,7 @@ use Rattle.page_words.specs.Ranges.{within}
 use Rattle.refusals.specs.Refusals.{Refusal, refusal, whole, first}
 use Rattle.refusals.specs.declared.Verdict.{Verdict}
 use Rattle.refusals.specs.declared.Verdict.the-variants.{Accepted, Refused}
-use Rattle.units.specs.Cells.{lookedAt}
+use Rattle.units.specs.Cells.{tenAtMost}
 use Rattle.sample.specs.Cells.{noVolts}
 use Rattle.sample.specs.declared.Sample.{Sample}
 
@@ -40,7 +40,7 @@ exactCount (suc m) count = eqb count (suc m)
 unfoldable pub sampleRefusals : ℕ → Sample → List Refusal
 sampleRefusals n s =
     refusal 9 (whole (exactCount n (s .count)))
-    ∷ refusal 10 (whole (cellsFit (s .cells) (lookedAt (s .count))))
+    ∷ refusal 10 (whole (cellsFit (s .cells) (tenAtMost (s .count))))
     ∷ refusal 11 (whole (temperatureFits (s .t1 .0) && temperatureFits (s .t2 .0)))
     ∷ []
 

@@ -3,14 +3,14 @@ ghost use mathlib.Core.Path.{_≡_};
 ghost use mathlib.Core.Bool.{_&&_};
 ghost use Rattle.refusals.specs.Answers.{answerOf};
 ghost use Rattle.refusals.specs.Refusals.{given};
-ghost use Rattle.units.specs.Cells.{lookedAt};
+ghost use Rattle.units.specs.Cells.{tenAtMost};
 ghost use Rattle.pack_refusals.specs.Samples.{cellFits, cellsFit, temperatureFits, temperaturesVerdict, sampleRefusals, sampleVerdict, commandRefusals, commandVerdict, keptCell, trimmed};
 use refusals::Verdict;
 use refusals::refused;
 use sample::Sample;
 use units::DeciKelvin;
 use units::MilliVolts;
-use units::looked_at;
+use units::ten_at_most;
 
 // One cell more that is no more than 6000 mV.
 fn cell_too(others: bool, v: MilliVolts) -> bool
@@ -23,9 +23,9 @@ fn cell_too(others: bool, v: MilliVolts) -> bool
 }
 
 fn cells_fit(cells: [MilliVolts; 10], count: u8) -> bool
-    ensures { λ r. ⌜ r ≡ cellsFit cells (lookedAt count) ⌝ }
+    ensures { λ r. ⌜ r ≡ cellsFit cells (tenAtMost count) ⌝ }
 {
-    let n = looked_at(count);
+    let n = ten_at_most(count);
     let mut ok = true;
     let mut i: usize = 0;
     while i < n {

@@ -8,11 +8,11 @@ use lib.Dec.{lit<}
 use Rattle.laws.specs.Bits.{hasBit}
 use Rattle.units.specs.declared.ProtectionNo.{ProtectionNo}
 use Rattle.protections.specs.Table.{protections}
-use Rattle.guard_raised.specs.Words.{raisedAfter, raisedWord, raisedBits, raisedBits-is, blocksAny-is, raisedWord-has}
+use Rattle.guard_raised.specs.Words.{raisedAfter, raisedWordAfter, raisedWord, raisedWord-is, blocksAny-is, raisedWordAfter-has}
 use Rattle.page_settings.specs.declared.Settings.{Settings}
 use Rattle.bleed_wants.specs.Wants.{isCharging}
 use Rattle.pack_state.specs.Past.{Past}
-use Rattle.pack_state.specs.State.{balanceAfter, stateOf, anySample, latestOf}
+use Rattle.pack_state.specs.State.{balanceAfter, stateAfter, anySample, latestAfter}
 use Rattle.pack_shown.specs.Shown.{switchAfter, switchesWord, modeOrder, firstMode, flowMode, modeAfter, decisionAfter, decision, switchOn, switchesOf, modeOf, decisionOf}
 
 -- The order of modes has only numbers of protections.
@@ -35,30 +35,30 @@ decision-same er ef em = cc
 
 module _ (page : Settings) (p : Past) where
   -- "A switch is on exactly if at least one sample was accepted, its bit is commanded, and no raised protection has its mask bit."
-  pub switch-is : (switch : ℕ) → switchOn (stateOf page p) switch ≡ switchAfter page p switch
-  unfolding stateOf
+  pub switch-is : (switch : ℕ) → switchOn (stateAfter page p) switch ≡ switchAfter page p switch
+  unfolding stateAfter
   switch-is switch = rw (blocksAny-is (page .limits) (p .history) switch)
 
   -- Both switches as a word.
-  pub switches-is : switchesOf (stateOf page p) ≡ switchesWord (switchAfter page p)
+  pub switches-is : switchesOf (stateAfter page p) ≡ switchesWord (switchAfter page p)
   unfolding switchesOf
   switches-is = rw (switch-is 0, switch-is 1)
 
   -- The word of raised protections.
-  pub raised-is : raisedBits (stateOf page p .protections) ≡ raisedWord (page .limits) (p .history)
-  unfolding stateOf
-  raised-is = raisedBits-is (page .limits) (p .history)
+  pub raised-is : raisedWord (stateAfter page p .protections) ≡ raisedWordAfter (page .limits) (p .history)
+  unfolding stateAfter
+  raised-is = raisedWord-is (page .limits) (p .history)
 
-  pub mode-is : modeOf (stateOf page p) ≡ modeAfter page (p .history)
-  unfolding modeOf modeAfter stateOf
+  pub mode-is : modeOf (stateAfter page p) ≡ modeAfter page (p .history)
+  unfolding modeOf modeAfter stateAfter
   mode-is =
-      let other : ℕ = flowMode (isCharging (page .rules .detection) (latestOf (p .history) .current)) in
+      let other : ℕ = flowMode (isCharging (page .rules .detection) (latestAfter (p .history) .current)) in
       ap (λ (m : ℕ). cond (anySample (p .history)) m 0)
-      (ap (λ (w : ℕ). firstMode (hasBit w) modeOrder other) (raisedBits-is (page .limits) (p .history))
-      ∙ mode-same (hasBit (raisedWord (page .limits) (p .history))) (raisedAfter (page .limits) (p .history)) modeOrder other order-inside
-      (raisedWord-has (page .limits) (p .history)))
+      (ap (λ (w : ℕ). firstMode (hasBit w) modeOrder other) (raisedWord-is (page .limits) (p .history))
+      ∙ mode-same (hasBit (raisedWordAfter (page .limits) (p .history))) (raisedAfter (page .limits) (p .history)) modeOrder other order-inside
+      (raisedWordAfter-has (page .limits) (p .history)))
 
   -- The five fields of a line of the replay.
-  pub decision-is : decisionOf (stateOf page p) ≡ decisionAfter page p
-  unfolding decisionOf decisionAfter stateOf balanceAfter
+  pub decision-is : decisionOf (stateAfter page p) ≡ decisionAfter page p
+  unfolding decisionOf decisionAfter stateAfter balanceAfter
   decision-is = decision-same raised-is switches-is mode-is

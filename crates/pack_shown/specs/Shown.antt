@@ -14,13 +14,13 @@ use Rattle.protections.specs.Table.{rowAt}
 use Rattle.protections.specs.declared.Mode.{Mode}
 use Rattle.protections.specs.declared.Mode.the-variants.{Silent, Number}
 use Rattle.sample.specs.declared.Sample.{Sample}
-use Rattle.guard_raised.specs.Words.{raisedAfter, raisedWord, blocked, raisedBits, blocksAny}
+use Rattle.guard_raised.specs.Words.{raisedAfter, raisedWordAfter, blocksAfter, raisedWord, blocksAny}
 use Rattle.bleed_wants.specs.Wants.{isCharging}
 use Rattle.page_settings.specs.declared.Settings.{Settings}
 use Rattle.pack_state.specs.declared.Pack.{Pack}
 use Rattle.pack_shown.specs.declared.Decision.{Decision}
 use Rattle.pack_state.specs.Past.{Past}
-use Rattle.pack_state.specs.State.{anySample, latestOf, tickAfter, bledAfter}
+use Rattle.pack_state.specs.State.{anySample, latestAfter, tickAfter, bledAfter}
 
 -- ---- switches
 
@@ -28,7 +28,7 @@ use Rattle.pack_state.specs.State.{anySample, latestOf, tickAfter, bledAfter}
 -- Switch 0 is charge, 1 is discharge.
 abbrev pub switchAfter : Settings → Past → ℕ → Bool
 switchAfter page p switch =
-    anySample (p .history) && hasBit (p .standing) switch && not (blocked (page .limits) (p .history) switch)
+    anySample (p .history) && hasBit (p .standing) switch && not (blocksAfter (page .limits) (p .history) switch)
 
 -- "`fets` bit 0 charge on and bit 1 discharge on."
 abbrev pub switchesWord : (ℕ → Bool) → ℕ
@@ -60,7 +60,7 @@ flowMode charge = cond charge 0x03 0x02
 unfoldable pub modeAfter : Settings → List Sample → ℕ
 modeAfter page h =
     cond (anySample h)
-    (firstMode (raisedAfter (page .limits) h) modeOrder (flowMode (isCharging (page .rules .detection) (latestOf h .current))))
+    (firstMode (raisedAfter (page .limits) h) modeOrder (flowMode (isCharging (page .rules .detection) (latestAfter h .current))))
     0
 
 -- ---- a line of the replay
@@ -71,7 +71,7 @@ decision t r f b m = record { tick = t; raised = r; fets = f; balance = b; mode 
 -- "`tick` is the count of accepted samples modulo 1000000, `raised` has bit p for raised p, `fets` .., `balance` is as 0x46".
 unfoldable pub decisionAfter : Settings → Past → Decision
 decisionAfter page p =
-    decision (tickAfter (p .history)) (raisedWord (page .limits) (p .history)) (switchesWord (switchAfter page p))
+    decision (tickAfter (p .history)) (raisedWordAfter (page .limits) (p .history)) (switchesWord (switchAfter page p))
     (bledAfter page (p .history)) (modeAfter page (p .history))
 
 -- ---- from the state
@@ -85,11 +85,11 @@ switchesOf p = switchesWord (switchOn p)
 unfoldable pub modeOf : Pack → ℕ
 modeOf p =
     cond (p .sampled)
-    (firstMode (hasBit (raisedBits (p .protections))) modeOrder (flowMode (isCharging (p .rules .detection) (p .latest .current))))
+    (firstMode (hasBit (raisedWord (p .protections))) modeOrder (flowMode (isCharging (p .rules .detection) (p .latest .current))))
     0
 
 unfoldable pub decisionOf : Pack → Decision
-decisionOf p = decision (p .tick) (raisedBits (p .protections)) (switchesOf p) (p .balance .bled) (modeOf p)
+decisionOf p = decision (p .tick) (raisedWord (p .protections)) (switchesOf p) (p .balance .bled) (modeOf p)
 
 -- ---- what the walk over the order needs
 

@@ -14,22 +14,22 @@ use Rattle.laws.specs.Words.{bitsOf, anyOf}
 use Rattle.protections.specs.Table.{rowAt, table}
 use Rattle.sample.specs.Cells.{bestOf, extremesOf}
 use Rattle.sample.specs.Measure.{measure}
-use Rattle.sample.specs.Cases.{minus, sampled}
+use Rattle.sample.specs.Cases.{belowZero, sampled}
 use Rattle.sample.specs.declared.Sample.{Sample}
 use Rattle.guard.specs.Cases.{limited}
-use Rattle.guard.specs.Steps.{raised, protectionOf, protectionsOf, stepOne, stepWith, stepAllWith}
-use Rattle.guard_raised.specs.Words.{anyRaised, someRaised}
+use Rattle.guard.specs.Steps.{raised, protectionAfter, protectionsAfter, stepOne, stepAt, stepAll}
+use Rattle.guard_raised.specs.Words.{anyRaised, anyRaisedAfter}
 use Rattle.bleed_wants.specs.Wants.{wants}
-use Rattle.bleed_wants.specs.Word.{inWord, wordTo}
-use Rattle.bleed_wants.specs.Steps.{cellOf, wishes, wantingWord}
-use Rattle.bleed.specs.Resting.Steps.{nextCell, nextRuns, runOf, rested, restingWord}
+use Rattle.bleed_wants.specs.Word.{holdsCell, cellsPassing}
+use Rattle.bleed_wants.specs.Steps.{voltsOf, wishes, wantingWord}
+use Rattle.bleed.specs.Resting.Steps.{nextCell, nextRuns, cellRunOf, runReached, restingWord}
 use Rattle.bleed.specs.Walk.Steps.{isCell, chosenWord}
 use Rattle.bleed.specs.Walk.Word.{withCellIf}
-use Rattle.bleed.specs.Walk.Balance.{bledWord}
+use Rattle.bleed.specs.Walk.Balance.{bledWordAfter}
 use Rattle.page_settings.specs.declared.Settings.{Settings}
 use Rattle.pack_state.specs.declared.Balance.{Balance}
 use Rattle.pack_state.specs.declared.Pack.{Pack}
-use Rattle.pack_state.specs.State.{wishAt, wishesOf, restedAfter, bledAfter, balanceAfter, nextTick, freshBalance, nextBalance, wantWith, acceptedPack, freshPack}
+use Rattle.pack_state.specs.State.{wishAt, wishesAfter, restedAfter, bledAfter, balanceAfter, nextTick, freshBalance, nextBalance, wantAt, acceptedPack, freshPack}
 
 -- "The count of accepted samples modulo 1000000": the tick is 999999 once, and 0 behind it.
 pub tick-wraps : map nextTick (0 ∷ 1 ∷ 99999 ∷ 999998 ∷ 999999 ∷ []) ≡ (1 ∷ 2 ∷ 100000 ∷ 999999 ∷ 0 ∷ [])
@@ -55,8 +55,8 @@ page r =
           limited (pos 4250) (pos 4150) 2 3 1
           ∷ limited (pos 2500) (pos 2600) 2 3 2
           ∷ limited (pos 5000) (pos 100) 2 3 1
-          ∷ limited (minus 5000) (minus 100) 2 3 2
-          ∷ limited (minus 9000) (minus 100) 2 3 3
+          ∷ limited (belowZero 5000) (belowZero 100) 2 3 2
+          ∷ limited (belowZero 9000) (belowZero 100) 2 3 3
           ∷ limited (pos 3180) (pos 3130) 2 3 1
           ∷ limited (pos 3330) (pos 3280) 2 3 2
           ∷ limited (pos 3330) (pos 3280) 2 3 3
@@ -118,14 +118,14 @@ rests-third =
     (1 ∷ 0 ∷ 1 ∷ 2 ∷ []) ∷ (3 ∷ 1 ∷ 0 ∷ 1 ∷ []) ∷ (2 ∷ 0 ∷ 1 ∷ 3 ∷ []) ∷ (1 ∷ 0 ∷ 1 ∷ 2 ∷ []) ∷ (1 ∷ 0 ∷ 0 ∷ 1 ∷ []) ∷ []
 
 pub starred-said : (said 1 seven ∷ said 2 always ∷ []) ≡ (starred ∷ rests-third ∷ [])
-unfolding balanceAfter restedAfter bledAfter bledWord wishesOf wishAt wishes cellOf wants someRaised anyOf raised rowAt table measure
-    extremesOf bestOf wordTo bitsOf withBitIf withBit withCellIf
+unfolding balanceAfter restedAfter bledAfter bledWordAfter wishesAfter wishAt wishes voltsOf wants anyRaisedAfter anyOf raised rowAt table measure
+    extremesOf bestOf cellsPassing bitsOf withBitIf withBit withCellIf
 starred-said = refl
 
 pub starred-made : (made 1 seven ∷ made 2 always ∷ []) ≡ (starred ∷ rests-third ∷ [])
-unfolding acceptedPack freshPack freshBalance nextBalance wantWith wantingWord wishes cellOf wants anyRaised anyOf stepAllWith
-    stepWith stepOne nextRun protectionsOf protectionOf listOf raised rowAt table measure extremesOf bestOf restingWord rested runOf chosenWord
-    isCell inWord hasBit withCellIf withBitIf withBit wordTo bitsOf nextCell nextRuns eachTo
+unfolding acceptedPack freshPack freshBalance nextBalance wantAt wantingWord wishes voltsOf wants anyRaised anyOf stepAll
+    stepAt stepOne nextRun protectionsAfter protectionAfter listOf raised rowAt table measure extremesOf bestOf restingWord runReached cellRunOf chosenWord
+    isCell holdsCell hasBit withCellIf withBitIf withBit cellsPassing bitsOf nextCell nextRuns eachTo
 starred-made = refl
 
 -- ---- a protection of mask 0 only reports, and stops all bleeding while it is raised
@@ -139,8 +139,8 @@ reporting =
           limited (pos 4250) (pos 4150) 2 3 1
           ∷ limited (pos 2500) (pos 2600) 2 3 2
           ∷ limited (pos 400) (pos 100) 1 1 0
-          ∷ limited (minus 5000) (minus 100) 2 3 2
-          ∷ limited (minus 9000) (minus 100) 2 3 3
+          ∷ limited (belowZero 5000) (belowZero 100) 2 3 2
+          ∷ limited (belowZero 9000) (belowZero 100) 2 3 3
           ∷ limited (pos 3180) (pos 3130) 2 3 1
           ∷ limited (pos 3330) (pos 3280) 2 3 2
           ∷ limited (pos 3330) (pos 3280) 2 3 3
@@ -151,13 +151,13 @@ reporting =
 pub mask-zero-said :
     (wishAt (page 1) (charged 4000 4020 4000) [] 2 ∷ wishAt reporting (charged 4000 4020 4000) [] 2 ∷ [] ≡ true ∷ false ∷ [])
     × (bledAfter (page 1) (charged 4000 4020 4000 ∷ []) ∷ bledAfter reporting (charged 4000 4020 4000 ∷ []) ∷ [] ≡ 2 ∷ 0 ∷ [])
-unfolding bledAfter bledWord wishesOf wishAt wishes cellOf wants someRaised anyOf raised rowAt table measure extremesOf bestOf withBit
+unfolding bledAfter bledWordAfter wishesAfter wishAt wishes voltsOf wants anyRaisedAfter anyOf raised rowAt table measure extremesOf bestOf withBit
 mask-zero-said = (refl, refl)
 
 pub mask-zero-made :
     map (λ (p : Pack). p .balance .bled) (acceptedPack (freshPack (page 1)) (charged 4000 4020 4000) ∷ acceptedPack (freshPack reporting) (charged 4000 4020 4000) ∷ [])
     ≡ 2 ∷ 0 ∷ []
-unfolding acceptedPack freshPack freshBalance nextBalance wantWith wantingWord wishes cellOf wants anyRaised anyOf stepAllWith
-    stepWith stepOne nextRun protectionsOf protectionOf listOf raised rowAt table measure extremesOf bestOf restingWord rested runOf chosenWord
-    isCell inWord hasBit withCellIf withBitIf withBit wordTo bitsOf nextCell nextRuns eachTo
+unfolding acceptedPack freshPack freshBalance nextBalance wantAt wantingWord wishes voltsOf wants anyRaised anyOf stepAll
+    stepAt stepOne nextRun protectionsAfter protectionAfter listOf raised rowAt table measure extremesOf bestOf restingWord runReached cellRunOf chosenWord
+    isCell holdsCell hasBit withCellIf withBitIf withBit cellsPassing bitsOf nextCell nextRuns eachTo
 mask-zero-made = refl

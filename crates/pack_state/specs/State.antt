@@ -10,8 +10,8 @@ use Rattle.guard.specs.declared.rule.Protection.{Protection}
 use Rattle.sample.specs.Cells.{extremesOf}
 use Rattle.sample.specs.None.{noSample}
 use Rattle.sample.specs.declared.Extremes.{Extremes}
-use Rattle.guard.specs.Steps.{protectionsOf, stepAll}
-use Rattle.guard_raised.specs.Words.{someRaised, anyRaised}
+use Rattle.guard.specs.Steps.{protectionsAfter, stepAllBy}
+use Rattle.guard_raised.specs.Words.{anyRaisedAfter, anyRaised}
 use Rattle.page_settings.specs.declared.Rules.{Rules}
 use Rattle.page_settings.specs.declared.Settings.{Settings}
 use Rattle.bleed_wants.specs.Wants.{isCharging}
@@ -19,8 +19,8 @@ use Rattle.bleed_wants.specs.Steps.{wishes, wantingWord}
 use Rattle.bleed.specs.Resting.Steps.{nextCell, nextRuns, restingWord}
 use Rattle.bleed.specs.Walk.Steps.{chosenWord}
 use Rattle.bleed.specs.Walk.History.{bleds, resting, startCell}
-use Rattle.bleed_wants.specs.Word.{wordTo}
-use Rattle.bleed.specs.Walk.Balance.{runsOf, bledWord}
+use Rattle.bleed_wants.specs.Word.{cellsPassing}
+use Rattle.bleed.specs.Walk.Balance.{runsAfter, bledWordAfter}
 use Rattle.pack_state.specs.declared.Balance.{Balance}
 use Rattle.pack_state.specs.declared.Pack.{Pack}
 use Rattle.pack_state.specs.Past.{Past}
@@ -30,18 +30,18 @@ use Rattle.pack_state.specs.Past.{Past}
 -- Which cells want bleeding at the latest sample s of a history: "protections first, then bleeding with the new protections".
 unfoldable pub wishAt : Settings → Sample → List Sample → ℕ → Bool
 wishAt page s h =
-    wishes (isCharging (page .rules .detection) (s .current)) (someRaised (page .limits) (s ∷ h)) (page .rules .floor .0)
+    wishes (isCharging (page .rules .detection) (s .current)) (anyRaisedAfter (page .limits) (s ∷ h)) (page .rules .floor .0)
     (page .rules .difference .0) (extremesOf (s .cells) (s .count) .lowest .0) (s .cells)
 
 -- Which cells wanted at each sample of a history.
-unfoldable pub wishesOf : Settings → List Sample → List (ℕ → Bool)
-wishesOf page [] = []
-wishesOf page (s ∷ h) = wishAt page s h ∷ wishesOf page h
+unfoldable pub wishesAfter : Settings → List Sample → List (ℕ → Bool)
+wishesAfter page [] = []
+wishesAfter page (s ∷ h) = wishAt page s h ∷ wishesAfter page h
 
 -- Before the first sample, the one that stands for none.
-abbrev pub latestOf : List Sample → Sample
-latestOf [] = noSample
-latestOf (s ∷ h) = s
+abbrev pub latestAfter : List Sample → Sample
+latestAfter [] = noSample
+latestAfter (s ∷ h) = s
 
 -- "`tick` is the count of accepted samples modulo 1000000."
 abbrev pub tickAfter : List Sample → ℕ
@@ -58,16 +58,16 @@ byPage page f = f (page .rules .n) (page .rules .k) (page .rules .r)
 module _ (page : Settings) where
   -- The cells bled at each sample of a history, the latest first.
   abbrev pub bledsAfter : List Sample → List (List ℕ)
-  bledsAfter h = byPage page bleds (wishesOf page h)
+  bledsAfter h = byPage page bleds (wishesAfter page h)
 
   -- The word of the cells that rested at the latest sample; none before the first.
   unfoldable pub restedAfter : List Sample → ℕ
   restedAfter [] = 0
-  restedAfter (s ∷ h) = wordTo (page .rules .n) (resting (page .rules .r) (bledsAfter h))
+  restedAfter (s ∷ h) = cellsPassing (page .rules .n) (resting (page .rules .r) (bledsAfter h))
 
   -- The word of the cells that were bled at the latest sample; none before the first.
   unfoldable pub bledAfter : List Sample → ℕ
-  bledAfter h = byPage page bledWord (wishesOf page h)
+  bledAfter h = byPage page bledWordAfter (wishesAfter page h)
 
   -- What bleeding keeps. The latest of i samples had i - 1 before it.
   unfoldable pub balanceAfter : List Sample → Balance
@@ -77,17 +77,17 @@ module _ (page : Settings) where
         rested = restedAfter h;
         bled = bledAfter h;
         start = record { 0 = startCell (page .rules .n) (length h) };
-        runs = byPage page runsOf (wishesOf page h);
+        runs = byPage page runsAfter (wishesAfter page h);
       }
 
   -- The state of a pack with this page after this past.
-  unfoldable pub stateOf : Past → Pack
-  stateOf p =
+  unfoldable pub stateAfter : Past → Pack
+  stateAfter p =
       record {
         rules = page .rules;
-        protections = protectionsOf (page .limits) (p .history);
+        protections = protectionsAfter (page .limits) (p .history);
         balance = balanceAfter (p .history);
-        latest = latestOf (p .history);
+        latest = latestAfter (p .history);
         sampled = anySample (p .history);
         command = p .standing;
         tick = tickAfter (p .history);
@@ -116,15 +116,15 @@ nextBalance r want b =
     }
 
 -- The word of the cells that want bleeding at a sample whose highest and lowest cell are e, by the protections after it.
-unfoldable pub wantWith : Rules → Sample → Extremes → List Protection → ℕ
-wantWith r s e ps =
+unfoldable pub wantAt : Rules → Sample → Extremes → List Protection → ℕ
+wantAt r s e ps =
     wantingWord (r .n) (isCharging (r .detection) (s .current)) (anyRaised ps) (r .floor .0) (r .difference .0) (e .lowest .0) (s .cells)
 
 -- The pack after an accepted sample, of which `s` is kept: "protections first, then bleeding with the new protections".
 unfoldable pub acceptedPack : Pack → Sample → Pack
 acceptedPack p s =
-    let stepped : List Protection = stepAll s (p .protections) in
-    let want : ℕ = wantWith (p .rules) s (extremesOf (s .cells) (s .count)) stepped in
+    let stepped : List Protection = stepAllBy s (p .protections) in
+    let want : ℕ = wantAt (p .rules) s (extremesOf (s .cells) (s .count)) stepped in
     record {
       rules = p .rules;
       protections = stepped;
@@ -140,7 +140,7 @@ unfoldable pub freshPack : Settings → Pack
 freshPack page =
     record {
       rules = page .rules;
-      protections = protectionsOf (page .limits) [];
+      protections = protectionsAfter (page .limits) [];
       balance = freshBalance;
       latest = noSample;
       sampled = false;

@@ -1,6 +1,6 @@
 // The state of a pack: what it holds, and one accepted sample on.
 ghost use mathlib.Core.Path.{_≡_};
-ghost use Rattle.pack_state.specs.State.{nextTick, wantWith, nextBalance, acceptedPack};
+ghost use Rattle.pack_state.specs.State.{nextTick, wantAt, nextBalance, acceptedPack};
 use bleed::chooser::choose;
 use bleed::resting::next_cell;
 use bleed::resting::next_runs;
@@ -53,7 +53,7 @@ fn next_tick(t: u32) -> u32
 
 // The cells that want bleeding, by the protections after the sample.
 fn want_at(r: Rules, s: Sample, e: Extremes, ps: [Protection; PROTECTIONS]) -> u16
-    ensures { λ w. ⌜ w ≡ wantWith r s e ps ⌝ }
+    ensures { λ w. ⌜ w ≡ wantAt r s e ps ⌝ }
 {
     let charging = is_charging(r.detection, s.current);
     let raised = any_raised(ps);

@@ -7,7 +7,7 @@ use lib.IntN.{pos, negsuc}
 use Rattle.protections.specs.declared.Quantity.the-variants.{HighestCell, LowestCell, Current, Temperature1, Temperature2}
 use Rattle.protections.specs.declared.Direction.the-variants.{Above, Below}
 use Rattle.protections.specs.declared.Mode.the-variants.{Silent, Number}
-use Rattle.protections.specs.Direction.{reaches, back, inOrder}
+use Rattle.protections.specs.Direction.{reaches, backOf, inOrder}
 use Rattle.protections.specs.Table.{rowWith, rowAt, table}
 
 -- Over voltage looks at the highest cell and trips at or above; under voltage at the lowest, at or below, and has no mode.
@@ -54,5 +54,5 @@ orders
 orders = refl
 
 -- Release is the other way round.
-ways : (back Above ∷ back Below ∷ []) ≡ (Below ∷ Above ∷ [])
+ways : (backOf Above ∷ backOf Below ∷ []) ≡ (Below ∷ Above ∷ [])
 ways = refl

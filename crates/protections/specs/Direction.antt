@@ -14,9 +14,9 @@ reaches Above level v = leZ level v
 reaches Below level v = leZ v level
 
 -- "At or above" releases at or below the release level; "at or below" releases at or above it.
-abbrev pub back : Direction → Direction
-back Above = Below
-back Below = Above
+abbrev pub backOf : Direction → Direction
+backOf Above = Below
+backOf Below = Above
 
 -- The release level must be less than trip for "at or above", greater for "at or below".
 abbrev pub inOrder : Direction → ℤ → ℤ → Bool
@@ -33,7 +33,7 @@ le a b e = leZ-yes (rw e tt)
 
 -- A value that reaches the trip level does not reach the release level, if the two are in order.
 pub never-both : (d : Direction) (trip release v : ℤ) → inOrder d trip release ≡ true → reaches d trip v ≡ true
-    → reaches (back d) release v ≡ false
+    → reaches (backOf d) release v ≡ false
 never-both Above trip release v p q =
     by-test (leZ v release)
     (λ t. clashℤ (<ℤ-≤ℤ-trans (lt release trip p) (le trip v q)) (le v release t))

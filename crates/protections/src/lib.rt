@@ -1,6 +1,6 @@
 // Document 01's table of the eight protections: what each looks at, which way it trips, its mode number.
 ghost use mathlib.Core.Path.{_≡_};
-ghost use Rattle.protections.specs.Direction.{back};
+ghost use Rattle.protections.specs.Direction.{backOf};
 ghost use Rattle.protections.specs.Table.{rowWith, rowAt};
 use units::Level;
 use units::ProtectionNo;
@@ -31,7 +31,7 @@ pub enum Mode {
 
 // The direction in which a protection releases: the other one.
 pub fn back_of(d: Direction) -> Direction
-    ensures { λ r. ⌜ r ≡ back d ⌝ }
+    ensures { λ r. ⌜ r ≡ backOf d ⌝ }
 {
     match d {
         Direction::Above => Direction::Below,

@@ -16,10 +16,10 @@ use Rattle.sample.specs.Measure.{measure, between}
 
 -- ---- samples, written short
 
--- The number below zero: `minus 5` is -5.
-abbrev pub minus : ℕ → ℤ
-minus zero = pos 0
-minus (suc k) = negsuc k
+-- The number below zero: `belowZero 5` is -5.
+abbrev pub belowZero : ℕ → ℤ
+belowZero zero = pos 0
+belowZero (suc k) = negsuc k
 
 abbrev pub cellsFrom : List ℕ → List MilliVolts
 cellsFrom [] = []
@@ -32,11 +32,11 @@ sampled count cells current t1 t2 =
 -- ---- each protection looks at its own quantity, and entries past the count are no cells
 
 abbrev mixed : Sample
-mixed = sampled 3 (4000 ∷ 4020 ∷ 3990 ∷ 5999 ∷ 1 ∷ 0 ∷ 0 ∷ 0 ∷ 0 ∷ 0 ∷ []) (minus 7) 2981 3002
+mixed = sampled 3 (4000 ∷ 4020 ∷ 3990 ∷ 5999 ∷ 1 ∷ 0 ∷ 0 ∷ 0 ∷ 0 ∷ 0 ∷ []) (belowZero 7) 2981 3002
 
 pub quantities
     : listOf (λ p. measure (rowAt p .quantity) mixed) protections
-    ≡ (pos 4020 ∷ pos 3990 ∷ minus 7 ∷ minus 7 ∷ minus 7 ∷ pos 2981 ∷ pos 2981 ∷ pos 3002 ∷ [])
+    ≡ (pos 4020 ∷ pos 3990 ∷ belowZero 7 ∷ belowZero 7 ∷ belowZero 7 ∷ pos 2981 ∷ pos 2981 ∷ pos 3002 ∷ [])
 unfolding listOf listFrom measure extremesOf bestOf rowAt table
 quantities = refl
 
@@ -58,6 +58,6 @@ pub between-above : map (between Above (pos 4250) (pos 4150)) (pos 4100 ∷ pos 
     ≡ false ∷ false ∷ true ∷ true ∷ false ∷ false ∷ []
 between-above = refl
 
-pub between-below : map (between Below (minus 5000) (minus 100)) (minus 5001 ∷ minus 5000 ∷ minus 4999 ∷ minus 101 ∷ minus 100 ∷ pos 5 ∷ [])
+pub between-below : map (between Below (belowZero 5000) (belowZero 100)) (belowZero 5001 ∷ belowZero 5000 ∷ belowZero 4999 ∷ belowZero 101 ∷ belowZero 100 ∷ pos 5 ∷ [])
     ≡ false ∷ false ∷ true ∷ true ∷ false ∷ false ∷ []
 between-below = refl

@@ -13,7 +13,7 @@ use lib.ListN.{getD}
 use borrow.Author.Tests.{ltb-true, ltb-false}
 use Rattle.laws.specs.Tests.{by-test}
 use Rattle.units.specs.declared.MilliVolts.{MilliVolts}
-use Rattle.units.specs.Cells.{lookedAt, looked-all}
+use Rattle.units.specs.Cells.{tenAtMost, ten-all}
 use Rattle.sample.specs.declared.Extremes.{Extremes}
 
 abbrev pub noVolts : MilliVolts
@@ -44,21 +44,21 @@ abbrev pub extremesTo : List MilliVolts → ℕ → Extremes
 extremesTo cells n = record { highest = highest cells n; lowest = lowest cells n }
 
 -- The extremes of one cell more.
-unfoldable pub widen : Extremes → MilliVolts → Extremes
-widen e cell = record { highest = larger (e .highest) cell; lowest = smaller (e .lowest) cell }
+unfoldable pub widened : Extremes → MilliVolts → Extremes
+widened e cell = record { highest = larger (e .highest) cell; lowest = smaller (e .lowest) cell }
 
 -- The highest and the lowest cell of a sample of `count` cells.
 unfoldable pub extremesOf : List MilliVolts → ℕ → Extremes
-extremesOf cells count = extremesTo cells (lookedAt count)
+extremesOf cells count = extremesTo cells (tenAtMost count)
 
 -- ---- what the search for them needs
 
 pub extremes-are : (cells : List MilliVolts) (count : ℕ) → count ≤ 10
     → extremesOf cells count ≡ record { highest = highest cells count; lowest = lowest cells count }
 unfolding extremesOf
-extremes-are cells count h = ap (extremesTo cells) (looked-all count h)
+extremes-are cells count h = ap (extremesTo cells) (ten-all count h)
 
-pub extremes-none : (cells : List MilliVolts) (count : ℕ) → lookedAt count ≡ 0
+pub extremes-none : (cells : List MilliVolts) (count : ℕ) → tenAtMost count ≡ 0
     → record { highest = noVolts; lowest = noVolts } ≡ extremesOf cells count
 unfolding extremesOf bestOf
 extremes-none cells count e = rw e
@@ -70,8 +70,8 @@ extremes-first cells = refl
 
 -- One turn of the search.
 pub extremes-next : (cells : List MilliVolts) (e : Extremes) (i : ℕ) → 1 ≤ i → e ≡ extremesTo cells i
-    → widen e (getD cells i noVolts) ≡ extremesTo cells (i + 1)
-unfolding widen bestOf
+    → widened e (getD cells i noVolts) ≡ extremesTo cells (i + 1)
+unfolding widened bestOf
 extremes-next cells e zero h q = absurd (not-suc-le-zero h)
 extremes-next cells e (suc k) h q = rw (add-one, q)
 

@@ -11,22 +11,22 @@ use Rattle.protections.specs.declared.Quantity.{Quantity}
 use Rattle.protections.specs.declared.Quantity.the-variants.{HighestCell, LowestCell, Current, Temperature1, Temperature2}
 use Rattle.protections.specs.declared.Limits.{Limits}
 use Rattle.protections.specs.declared.Row.{Row}
-use Rattle.protections.specs.Direction.{reaches, back}
+use Rattle.protections.specs.Direction.{reaches, backOf}
 use Rattle.sample.specs.declared.Sample.{Sample}
 use Rattle.sample.specs.declared.Extremes.{Extremes}
 use Rattle.sample.specs.Cells.{extremesOf}
 
 -- The table's column "Quantity", as one signed number, of a sample whose highest and lowest cell are e.
-abbrev pub measureWith : Extremes → Quantity → Sample → ℤ
-measureWith e HighestCell s = pos (e .highest .0)
-measureWith e LowestCell s = pos (e .lowest .0)
-measureWith e Current s = s .current
-measureWith e Temperature1 s = pos (s .t1 .0)
-measureWith e Temperature2 s = pos (s .t2 .0)
+abbrev pub measured : Extremes → Quantity → Sample → ℤ
+measured e HighestCell s = pos (e .highest .0)
+measured e LowestCell s = pos (e .lowest .0)
+measured e Current s = s .current
+measured e Temperature1 s = pos (s .t1 .0)
+measured e Temperature2 s = pos (s .t2 .0)
 
 -- The quantity of a sample: the cells that count are its first ones.
 unfoldable pub measure : Quantity → Sample → ℤ
-measure q s = measureWith (extremesOf (s .cells) (s .count)) q s
+measure q s = measured (extremesOf (s .cells) (s .count)) q s
 
 -- "Trips": at or above the trip level, or at or below it, as the row says.
 abbrev pub trips : Row → Limits → Sample → Bool
@@ -34,7 +34,7 @@ trips row l s = reaches (row .direction) (l .trip .0) (measure (row .quantity) s
 
 -- "Releases": the other way round, at the release level.
 abbrev pub qualifies : Row → Limits → Sample → Bool
-qualifies row l s = reaches (back (row .direction)) (l .release .0) (measure (row .quantity) s)
+qualifies row l s = reaches (backOf (row .direction)) (l .release .0) (measure (row .quantity) s)
 
 -- "A sample between the two levels": past the release level and short of the trip level.
 abbrev pub between : Direction → ℤ → ℤ → ℤ → Bool
@@ -46,7 +46,7 @@ less-no a b e = by-test (leZ b a) (λ t. clashℤ (ltZ-yes {a = a} {b = b} (rw e
 
 -- It neither trips nor qualifies.
 pub between-neither : (d : Direction) (trip release v : ℤ) → between d trip release v ≡ true
-    → (reaches d trip v ≡ false) × (reaches (back d) release v ≡ false)
+    → (reaches d trip v ≡ false) × (reaches (backOf d) release v ≡ false)
 between-neither Above trip release v e =
     (less-no v trip (and-right (ltZ release v) (ltZ v trip) e), less-no release v (and-left (ltZ release v) (ltZ v trip) e))
 between-neither Below trip release v e =

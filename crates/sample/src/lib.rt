@@ -1,14 +1,14 @@
 // The quantities of a sample, which the protections look at: its highest and lowest cell, its current, its temperatures.
 ghost use mathlib.Core.Path.{_≡_};
 ghost use Rattle.units.specs.Levels.{level};
-ghost use Rattle.sample.specs.Cells.{larger, smaller, widen, extremesOf};
-ghost use Rattle.sample.specs.Measure.{measureWith};
+ghost use Rattle.sample.specs.Cells.{larger, smaller, widened, extremesOf};
+ghost use Rattle.sample.specs.Measure.{measured};
 ghost use Rattle.sample.specs.None.{noSample};
 use protections::Quantity;
 use units::DeciKelvin;
 use units::Level;
 use units::MilliVolts;
-use units::looked_at;
+use units::ten_at_most;
 
 // A sample: the first `count` entries are cells 1 to `count`, and the entries past them are no cells.
 pub struct Sample {
@@ -62,7 +62,7 @@ fn smaller_of(a: MilliVolts, b: MilliVolts) -> MilliVolts
 
 // The extremes with one cell more.
 fn widened(e: Extremes, cell: MilliVolts) -> Extremes
-    ensures { λ r. ⌜ r ≡ widen e cell ⌝ }
+    ensures { λ r. ⌜ r ≡ widened e cell ⌝ }
 {
     let highest = larger_of(e.highest, cell);
     let lowest = smaller_of(e.lowest, cell);
@@ -76,7 +76,7 @@ fn widened(e: Extremes, cell: MilliVolts) -> Extremes
 pub fn extremes_of(cells: [MilliVolts; 10], count: u8) -> Extremes
     ensures { λ r. ⌜ r ≡ extremesOf cells count ⌝ }
 {
-    let n = looked_at(count);
+    let n = ten_at_most(count);
     if n == 0 {
         return Extremes {
             highest: MilliVolts(0),
@@ -101,7 +101,7 @@ pub fn extremes_of(cells: [MilliVolts; 10], count: u8) -> Extremes
 
 // The quantity of a sample whose extremes are e, as a level: millivolts, a current or a temperature becomes what levels are held against.
 pub fn measured(q: Quantity, s: Sample, e: Extremes) -> Level
-    ensures { λ r. ⌜ r ≡ level (measureWith e q s) ⌝ }
+    ensures { λ r. ⌜ r ≡ level (measured e q s) ⌝ }
 {
     match q {
         Quantity::HighestCell => Level(e.highest.0 as i32),

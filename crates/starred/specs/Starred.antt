@@ -16,7 +16,7 @@ use Rattle.refusals.specs.declared.Verdict.{Verdict}
 use Rattle.refusals.specs.declared.Verdict.the-variants.{Accepted, Refused}
 use Rattle.sample.specs.Cells.{bestOf, extremesOf}
 use Rattle.sample.specs.Measure.{measure}
-use Rattle.sample.specs.Cases.{minus, sampled}
+use Rattle.sample.specs.Cases.{belowZero, sampled}
 use Rattle.protections.specs.declared.Limits.{Limits}
 use Rattle.protections.specs.Table.{rowAt, table}
 use Rattle.sample.specs.declared.Sample.{Sample}
@@ -30,9 +30,9 @@ use Rattle.page_settings.specs.Cases.{worked}
 use Rattle.page_settings.specs.declared.Settings.{Settings}
 use Rattle.pack_state.specs.Past.{Past, past}
 use Rattle.bus_table.specs.Table as bus
-use Rattle.bus_table.specs.Table.{rowOf}
+use Rattle.bus_table.specs.Table.{rowOfCommand}
 use Rattle.bus_words.specs.Words.{packWord, sentWord, wordAfter}
-use Rattle.bus.specs.Replies.{notInTable, cellAbove, replyRefusals, repliedFor, frameOf, repliedAfter, bufferAfter}
+use Rattle.bus.specs.Replies.{notInTable, cellAbove, replyRefusals, answerFor, frameOf, answerAfter, bufferAfter}
 use Rattle.starred.specs.EverySecond.{only, everySecond, bled-every-second}
 
 -- ---- the definitions that the cases speak of
@@ -117,8 +117,8 @@ module _ (d : Definitions) where
       × (map (has 1) wanting ≡ (no ∷ no ∷ yes ∷ yes ∷ yes ∷ yes ∷ yes ∷ []))
       × (map (has 1) (bled 3 1 1 wanting) ≡ (no ∷ no ∷ yes ∷ no ∷ no ∷ no ∷ yes ∷ [])))
       -- (*) "Current -2 is sent as FE FF; -32768 as 00 80."
-      ∷ ((sentFor (minus 2) ≡ (0xFE ∷ 0xFF ∷ []))
-      × (sentFor (minus 32768) ≡ (0x00 ∷ 0x80 ∷ [])))
+      ∷ ((sentFor (belowZero 2) ≡ (0xFE ∷ 0xFF ∷ []))
+      × (sentFor (belowZero 32768) ≡ (0x00 ∷ 0x80 ∷ [])))
       -- (*) "Cell 6000 taken, 6001 gives 10. Temperature 2000 and 4500 taken, 1999 and 4501 give 11." Either cell, either temperature.
       ∷ ((ofCells 6000 4000 ≡ Accepted)
       × (ofCells 4000 6000 ≡ Accepted)
@@ -156,8 +156,8 @@ backwards-page b e = rw (judged-is, e)
 
 -- Document 01's starred cases hold of our definitions.
 pub all-starred : AllHold (starred ours)
-unfolding checkByte remainder withByte timesXs timesX raised rowAt table measure extremesOf bestOf bufferAfter repliedAfter repliedFor
-    replyRefusals notInTable cellAbove rowOf bus.table frameOf wordAfter sentWord packWord wordOf sampleVerdict sampleRefusals cellsFit within
+unfolding checkByte remainder withByte timesXs timesX raised rowAt table measure extremesOf bestOf bufferAfter answerAfter answerFor
+    replyRefusals notInTable cellAbove rowOfCommand bus.table frameOf wordAfter sentWord packWord wordOf sampleVerdict sampleRefusals cellsFit within
 all-starred = (
   (refl, refl, refl),
   (

@@ -13,7 +13,7 @@ use borrow.Author.Tests.{le-ltb, ltb-false, leb-true, eqb-true, ne-eqb}
 use Rattle.laws.specs.Tests.{by-test, by-order, clash, and-left, and-right, or-cases}
 use Rattle.text_fields.specs.Finding.{before, lacks, before-at, before-none}
 use Rattle.text_fields.specs.Fields.{fieldAt}
-use Rattle.text_numbers.specs.Numbers.{digitsTo, numberTo, numberOf}
+use Rattle.text_numbers.specs.Numbers.{digitsTo, numberTo, readNumber}
 use Rattle.text_fields.specs.Spelling.{decimal-lacks}
 use Rattle.text_numbers.specs.Canonical.{number-text}
 use Rattle.text_numbers.specs.declared.Number.{Number}
@@ -27,7 +27,7 @@ withEnd Malformed e = field.Malformed
 
 -- the field that starts at from, as a number, and where it ends
 abbrev pub numberAt : List ℕ → ℕ → FieldNumber
-numberAt line from = withEnd (numberOf (fieldAt line from)) (from + length (fieldAt line from))
+numberAt line from = withEnd (readNumber (fieldAt line from)) (from + length (fieldAt line from))
 
 -- what was read says so of the field
 isNumber : FieldNumber → Bool
@@ -54,11 +54,11 @@ none-is Malformed x q = refl
 
 module _ (line : List ℕ) (from : ℕ) where
   pub number-at-value : (v e : ℕ) → numberAt line from ≡ field.Value v e
-      → (numberOf (fieldAt line from) ≡ Value v) × (e ≡ from + length (fieldAt line from))
-  number-at-value v e q = value-is (numberOf (fieldAt line from)) (from + length (fieldAt line from)) v e q
+      → (readNumber (fieldAt line from) ≡ Value v) × (e ≡ from + length (fieldAt line from))
+  number-at-value v e q = value-is (readNumber (fieldAt line from)) (from + length (fieldAt line from)) v e q
 
-  pub number-at-none : numberAt line from ≡ field.Malformed → numberOf (fieldAt line from) ≡ Malformed
-  number-at-none q = none-is (numberOf (fieldAt line from)) (from + length (fieldAt line from)) q
+  pub number-at-none : numberAt line from ≡ field.Malformed → readNumber (fieldAt line from) ≡ Malformed
+  number-at-none q = none-is (readNumber (fieldAt line from)) (from + length (fieldAt line from)) q
 
 -- ---- four digits
 
@@ -102,7 +102,7 @@ digits-other v (b ∷ bs) (suc j) h t =
     (λ w. rw w (by-test (ltb 65535 (v * 10 + (b - 48))) (λ x. rw x)
     (λ x. rw x (digits-other (v * 10 + (b - 48)) bs j (le-of-suc-le-suc h) t))))))
 
-pub number-byte : (f : List ℕ) (j : ℕ) → j < length f → noDigit (getD f j 0) ≡ true → numberOf f ≡ Malformed
+pub number-byte : (f : List ℕ) (j : ℕ) → j < length f → noDigit (getD f j 0) ≡ true → readNumber f ≡ Malformed
 unfolding numberTo
 number-byte [] j h t = refl
 number-byte (b ∷ []) j h t = digits-other 0 (b ∷ []) j h t
@@ -116,7 +116,7 @@ four-span a b c d ta tb tc td =
 
 -- four digits, the first of which is not 0
 pub four-value : (a b c d : ℕ) → (a ≡ 48 → ⊥) → noDigit a ≡ false → noDigit b ≡ false → noDigit c ≡ false → noDigit d ≡ false
-    → numberOf (a ∷ b ∷ c ∷ d ∷ []) ≡ Value (a * 1000 + b * 100 + c * 10 + d - 53328)
+    → readNumber (a ∷ b ∷ c ∷ d ∷ []) ≡ Value (a * 1000 + b * 100 + c * 10 + d - 53328)
 unfolding numberTo digitsTo
 four-value a b c d n ta tb tc td =
     let la = digit-low a ta in let ha = digit-high a ta in
@@ -132,7 +132,7 @@ four-value a b c d n ta tb tc td =
     ∙ ap Value e)
 
 -- the text of a number has no tab
-number-lacks : (f : List ℕ) (v : ℕ) → numberOf f ≡ Value v → lacks 9 f ≡ true
+number-lacks : (f : List ℕ) (v : ℕ) → readNumber f ≡ Value v → lacks 9 f ≡ true
 number-lacks f v e = rw (number-text 65535 f v e .0) (decimal-lacks 9 (lit≤ tt) v)
 
 or-zero-some : (n : Number) → 0 < orZero n → n ≡ Value (orZero n)
@@ -171,8 +171,8 @@ module _ (line : List ℕ) (from : ℕ) (t : fourLeft line from ≡ true) where
       (λ h. ap (λ (l : List ℕ). before 9 (fourAt line from ++ l)) (drop-of-length-le line h) ∙ before-none 9 (fourAt line from) n)
 
   -- the quick way gives what the field says
-  pub four-quick : 0 < orZero (numberOf (fourAt line from))
-      → field.Value (orZero (numberOf (fourAt line from))) (from + 4) ≡ numberAt line from
+  pub four-quick : 0 < orZero (readNumber (fourAt line from))
+      → field.Value (orZero (readNumber (fourAt line from))) (from + 4) ≡ numberAt line from
   four-quick h =
       let e = or-zero-some _ h in
       let f = four-field (number-lacks _ _ e) in

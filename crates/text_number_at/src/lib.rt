@@ -2,7 +2,7 @@
 ghost use mathlib.Core.Path.{_≡_};
 ghost use Prim.Native.Nat.{_+_, _≤_};
 ghost use lib.ListN.{length};
-ghost use Rattle.text_numbers.specs.Numbers.{numberOf};
+ghost use Rattle.text_numbers.specs.Numbers.{readNumber};
 ghost use Rattle.text_number_at.specs.NumberAt.{noDigit, orZero, fourAt, fourLeft, numberAt};
 use laws::wide;
 use text_fields::field;
@@ -28,7 +28,7 @@ fn no_digit(b: u8) -> bool
 // The number that the four bytes from `from` on spell, or 0 where they spell none: 53328 is 48 * 1111.
 fn four(line: &[u8], from: usize) -> u16
     requires { ⌜ from + 4 ≤ length (now line) ⌝ }
-    ensures { λ r. ⌜ r ≡ orZero (numberOf (fourAt (now (line .entry)) from)) ⌝ }
+    ensures { λ r. ⌜ r ≡ orZero (readNumber (fourAt (now (line .entry)) from)) ⌝ }
 {
     let a = line[from];
     if a == b'0' {

@@ -13,7 +13,7 @@ use lib.Signed.{leZ}
 use borrow.Author.Tests.{le-ltb, ltb-false, eqb-true, eqb-false, ne-eqb, le-leb, leb-true}
 use Rattle.laws.specs.Tests.{by-test, by-order}
 use Rattle.text_fields.specs.Decimal.{decimal}
-use Rattle.text_numbers.specs.Numbers.{digitsTo, numberTo, numberOf, aboveOf, belowOf, signedOf, signedText}
+use Rattle.text_numbers.specs.Numbers.{digitsTo, numberTo, readNumber, aboveOf, belowOf, readSigned, signedText}
 use Rattle.text_fields.specs.Spelling.{decimal-digit, decimal-tens, by-digits, decimal-some, decimal-first, decimal-lead, length-tens}
 use Rattle.text_numbers.specs.declared.Number.{Number}
 use Rattle.text_numbers.specs.declared.Number.the-variants.{Value, Malformed}
@@ -149,9 +149,9 @@ module _ (most : ℕ) where
       none (Value v) e = let t = number-text f v (sym e) in absurd (h v (t .1) (t .0))
 
 -- a field is read as v exactly if it is the text of v and v is 0..65535
-pub number-exactly : (f : List ℕ) (v : ℕ) → (numberOf f ≡ Value v → (f ≡ decimal v) × (v ≤ 65535))
-    × ((f ≡ decimal v) × (v ≤ 65535) → numberOf f ≡ Value v)
-number-exactly f v = (number-text 65535 f v, λ p. ap numberOf (p .0) ∙ number-read 65535 v (p .1))
+pub number-exactly : (f : List ℕ) (v : ℕ) → (readNumber f ≡ Value v → (f ≡ decimal v) × (v ≤ 65535))
+    × ((f ≡ decimal v) × (v ≤ 65535) → readNumber f ≡ Value v)
+number-exactly f v = (number-text 65535 f v, λ p. ap readNumber (p .0) ∙ number-read 65535 v (p .1))
 
 -- two numbers with one text are one
 pub decimal-one : (v w : ℕ) → decimal v ≡ decimal w → v ≡ w
@@ -184,8 +184,8 @@ below-text bs (Value (suc v)) z e q =
     rw (← s) (ap (λ (l : List ℕ). 45 ∷ l) (t .0), (le-leb v 32767 (omega (arith, t .1)), refl))
 
 -- a field that is read as z is the text of z, and z is in range
-pub signed-text : (f : List ℕ) (z : ℤ) → signedOf f ≡ signed.Value z → (f ≡ signedText z) × InRange z
-unfolding signedOf
+pub signed-text : (f : List ℕ) (z : ℤ) → readSigned f ≡ signed.Value z → (f ≡ signedText z) × InRange z
+unfolding readSigned
 signed-text [] z q = absurd (let k : _≡_ {A = ℕ} 0 1 = cc in omega arith)
 signed-text (b ∷ bs) z q =
     by-test (eqb b 45)
@@ -194,19 +194,19 @@ signed-text (b ∷ bs) z q =
     (ap (λ (a : ℕ). a ∷ bs) (eqb-true b 45 t) ∙ r .0, r .1))
     (λ t. above-text (b ∷ bs) (numberTo 32767 (b ∷ bs)) z refl (rw t at q))
 
-unsigned : (f : List ℕ) → 0 < length f → 48 ≤ getD f 0 0 → signedOf f ≡ aboveOf (numberTo 32767 f)
-unfolding signedOf
+unsigned : (f : List ℕ) → 0 < length f → 48 ≤ getD f 0 0 → readSigned f ≡ aboveOf (numberTo 32767 f)
+unfolding readSigned
 unsigned [] h l = absurd (omega arith)
 unsigned (b ∷ bs) h l = rw (ne-eqb b 45 (λ e. omega arith))
 
 -- the text of a number in range is read as that number
-pub signed-read : (z : ℤ) → InRange z → signedOf (signedText z) ≡ signed.Value z
-unfolding signedOf signedText
+pub signed-read : (z : ℤ) → InRange z → readSigned (signedText z) ≡ signed.Value z
+unfolding readSigned signedText
 signed-read (pos v) r =
     unsigned (decimal v) (decimal-some v) (decimal-first v) ∙ ap aboveOf (number-read 32767 v (leb-true v 32767 (r .1)))
 signed-read (negsuc v) r = ap belowOf (number-read 32768 (suc v) (let k = leb-true v 32767 (r .0) in omega arith))
 
 -- a field is read as z exactly if it is the text of z and z is -32768..32767
-pub signed-exactly : (f : List ℕ) (z : ℤ) → (signedOf f ≡ signed.Value z → (f ≡ signedText z) × InRange z)
-    × ((f ≡ signedText z) × InRange z → signedOf f ≡ signed.Value z)
-signed-exactly f z = (signed-text f z, λ p. ap signedOf (p .0) ∙ signed-read z (p .1))
+pub signed-exactly : (f : List ℕ) (z : ℤ) → (readSigned f ≡ signed.Value z → (f ≡ signedText z) × InRange z)
+    × ((f ≡ signedText z) × InRange z → readSigned f ≡ signed.Value z)
+signed-exactly f z = (signed-text f z, λ p. ap readSigned (p .0) ∙ signed-read z (p .1))

@@ -8,24 +8,24 @@ use Rattle.text_fields.specs.Decimal.{decimal}
 use Rattle.text_numbers.specs.Signs.{pastMinus, withSign}
 use Rattle.text_numbers.specs.declared.Number.the-variants.{Value, Malformed}
 use Rattle.text_numbers.specs.declared.Signed.the-variants as signed
-use Rattle.text_numbers.specs.Numbers.{digitsTo, numberTo, numberOf, negative, signedOf, signedText}
+use Rattle.text_numbers.specs.Numbers.{digitsTo, numberTo, readNumber, negative, readSigned, signedText}
 
 -- "0", "65535" are numbers
-pub numbers : (numberOf (quoted "0") ≡ Value 0) × (numberOf (quoted "65535") ≡ Value 65535)
+pub numbers : (readNumber (quoted "0") ≡ Value 0) × (readNumber (quoted "65535") ≡ Value 65535)
 unfolding numberTo digitsTo
 numbers = (refl, refl)
 
 -- "65536", "00", "", "+1", "-1", "4294967296", "1 " are none
-pub no-numbers : (numberOf (quoted "65536") ≡ Malformed) × (numberOf (quoted "00") ≡ Malformed) × (numberOf [] ≡ Malformed)
-    × (numberOf (quoted "+1") ≡ Malformed) × (numberOf (quoted "-1") ≡ Malformed)
-    × (numberOf (quoted "4294967296") ≡ Malformed) × (numberOf (quoted "1 ") ≡ Malformed)
+pub no-numbers : (readNumber (quoted "65536") ≡ Malformed) × (readNumber (quoted "00") ≡ Malformed) × (readNumber [] ≡ Malformed)
+    × (readNumber (quoted "+1") ≡ Malformed) × (readNumber (quoted "-1") ≡ Malformed)
+    × (readNumber (quoted "4294967296") ≡ Malformed) × (readNumber (quoted "1 ") ≡ Malformed)
 unfolding numberTo digitsTo
 no-numbers = (refl, refl, refl, refl, refl, refl, refl)
 
 -- "0", "32767", "-1", "-32768" are signed numbers
-pub signed-numbers : (signedOf (quoted "0") ≡ signed.Value (pos 0)) × (signedOf (quoted "32767") ≡ signed.Value (pos 32767))
-    × (signedOf (quoted "-1") ≡ signed.Value (negsuc 0)) × (signedOf (quoted "-32768") ≡ signed.Value (negsuc 32767))
-unfolding signedOf numberTo digitsTo
+pub signed-numbers : (readSigned (quoted "0") ≡ signed.Value (pos 0)) × (readSigned (quoted "32767") ≡ signed.Value (pos 32767))
+    × (readSigned (quoted "-1") ≡ signed.Value (negsuc 0)) × (readSigned (quoted "-32768") ≡ signed.Value (negsuc 32767))
+unfolding readSigned numberTo digitsTo
 signed-numbers = (refl, refl, refl, refl)
 
 -- minus 0, 1 and 32768
@@ -33,11 +33,11 @@ pub negatives : (negative 0 ≡ pos 0) × (negative 1 ≡ negsuc 0) × (negative
 negatives = (refl, refl, refl)
 
 -- "32768", "-32769", "-0", "-", "", "+1", "--1", "-01" are none
-pub no-signed-numbers : (signedOf (quoted "32768") ≡ signed.Malformed) × (signedOf (quoted "-32769") ≡ signed.Malformed)
-    × (signedOf (quoted "-0") ≡ signed.Malformed) × (signedOf (quoted "-") ≡ signed.Malformed) × (signedOf [] ≡ signed.Malformed)
-    × (signedOf (quoted "+1") ≡ signed.Malformed) × (signedOf (quoted "--1") ≡ signed.Malformed)
-    × (signedOf (quoted "-01") ≡ signed.Malformed)
-unfolding signedOf numberTo digitsTo
+pub no-signed-numbers : (readSigned (quoted "32768") ≡ signed.Malformed) × (readSigned (quoted "-32769") ≡ signed.Malformed)
+    × (readSigned (quoted "-0") ≡ signed.Malformed) × (readSigned (quoted "-") ≡ signed.Malformed) × (readSigned [] ≡ signed.Malformed)
+    × (readSigned (quoted "+1") ≡ signed.Malformed) × (readSigned (quoted "--1") ≡ signed.Malformed)
+    × (readSigned (quoted "-01") ≡ signed.Malformed)
+unfolding readSigned numberTo digitsTo
 no-signed-numbers = (refl, refl, refl, refl, refl, refl, refl, refl)
 
 -- the text of -32768

@@ -26,8 +26,8 @@ numberTo most (b ∷ []) = digitsTo most 0 (b ∷ [])
 numberTo most (b ∷ c ∷ bs) = cond (eqb b 48) Malformed (digitsTo most 0 (b ∷ c ∷ bs))
 
 -- "every other field 0..65535"
-abbrev pub numberOf : List ℕ → Number
-numberOf f = numberTo 65535 f
+abbrev pub readNumber : List ℕ → Number
+readNumber f = numberTo 65535 f
 
 -- minus v
 abbrev pub negative : ℕ → ℤ
@@ -46,9 +46,9 @@ belowOf (Value (suc v)) = signed.Value (negative (suc v))
 belowOf Malformed = signed.Malformed
 
 -- "The current is -32768..32767": a minus is byte 45
-unfoldable pub signedOf : List ℕ → Signed
-signedOf [] = signed.Malformed
-signedOf (b ∷ bs) = cond (eqb b 45) (belowOf (numberTo 32768 bs)) (aboveOf (numberTo 32767 (b ∷ bs)))
+unfoldable pub readSigned : List ℕ → Signed
+readSigned [] = signed.Malformed
+readSigned (b ∷ bs) = cond (eqb b 45) (belowOf (numberTo 32768 bs)) (aboveOf (numberTo 32767 (b ∷ bs)))
 
 -- the decimal text of a signed number
 unfoldable pub signedText : ℤ → List ℕ

@@ -11,7 +11,7 @@ use borrow.Author.Tests.{lt-ltb, le-ltb, ltb-true, eqb-true}
 use Rattle.laws.specs.Tests.{by-test, by-order, clash, and-left, and-right}
 use Rattle.text_fields.specs.Finding.{before}
 use Rattle.text_fields.specs.Fields.{fieldAt}
-use Rattle.text_numbers.specs.Numbers.{numberTo, numberOf, aboveOf, belowOf, signedOf}
+use Rattle.text_numbers.specs.Numbers.{numberTo, readNumber, aboveOf, belowOf, readSigned}
 use Rattle.text_numbers.specs.Canonical.{number-text, number-read, number-malformed, decimal-one}
 use Rattle.text_numbers.specs.declared.Number.{Number}
 use Rattle.text_numbers.specs.declared.Number.the-variants.{Value, Malformed}
@@ -45,7 +45,7 @@ cut : ℕ → Number → Number
 cut most (Value v) = upTo most v
 cut most Malformed = Malformed
 
-cut-is : (most : ℕ) → most ≤ 65535 → (f : List ℕ) (n : Number) → numberOf f ≡ n → numberTo most f ≡ cut most n
+cut-is : (most : ℕ) → most ≤ 65535 → (f : List ℕ) (n : Number) → readNumber f ≡ n → numberTo most f ≡ cut most n
 unfolding cut
 cut-is most m f (Value v) e =
     let t = number-text 65535 f v e in
@@ -53,34 +53,34 @@ cut-is most m f (Value v) e =
     (λ h. rw (lt-ltb most v h) (number-malformed most f (λ w l q. let k = decimal-one w v (sym q ∙ t .0) in omega arith)))
     (λ h. rw (le-ltb most v h) (ap (numberTo most) (t .0) ∙ number-read most v h))
 cut-is most m f Malformed e =
-    number-malformed most f (λ w l q. clash refl (ap isValue (sym (number-read 65535 w (omega arith)) ∙ ap numberOf (sym q) ∙ e)))
+    number-malformed most f (λ w l q. clash refl (ap isValue (sym (number-read 65535 w (omega arith)) ∙ ap readNumber (sym q) ∙ e)))
   where
     isValue : Number → Bool
     isValue (Value v) = true
     isValue Malformed = false
 
-signed-above : (f : List ℕ) → aboveOf (numberTo 32767 f) ≡ signedNumber false (numberOf f)
+signed-above : (f : List ℕ) → aboveOf (numberTo 32767 f) ≡ signedNumber false (readNumber f)
 unfolding cut withSign
-signed-above f = ap aboveOf (cut-is 32767 (omega arith) f (numberOf f) refl) ∙ above (numberOf f)
+signed-above f = ap aboveOf (cut-is 32767 (omega arith) f (readNumber f) refl) ∙ above (readNumber f)
   where
     above : (n : Number) → aboveOf (cut 32767 n) ≡ signedNumber false n
     above (Value v) = refl
     above Malformed = refl
 
-signed-below : (f : List ℕ) → belowOf (numberTo 32768 f) ≡ signedNumber true (numberOf f)
+signed-below : (f : List ℕ) → belowOf (numberTo 32768 f) ≡ signedNumber true (readNumber f)
 unfolding cut withSign
-signed-below f = ap belowOf (cut-is 32768 (omega arith) f (numberOf f) refl) ∙ below (numberOf f)
+signed-below f = ap belowOf (cut-is 32768 (omega arith) f (readNumber f) refl) ∙ below (readNumber f)
   where
     below : (n : Number) → belowOf (cut 32768 n) ≡ signedNumber true n
     below (Value v) = refl
     below Malformed = refl
 
-no-minus : (b : ℕ) (bs : List ℕ) → eqb b 45 ≡ false → signedOf (before 9 (b ∷ bs)) ≡ aboveOf (numberTo 32767 (before 9 (b ∷ bs)))
-unfolding signedOf before numberTo
+no-minus : (b : ℕ) (bs : List ℕ) → eqb b 45 ≡ false → readSigned (before 9 (b ∷ bs)) ≡ aboveOf (numberTo 32767 (before 9 (b ∷ bs)))
+unfolding readSigned before numberTo
 no-minus b bs t = by-test (eqb b 9) (λ u. rw u) (λ u. rw (u, t))
 
-no-field : (x : List ℕ) → x ≡ [] → signedOf (before 9 x) ≡ aboveOf (numberTo 32767 (before 9 x))
-unfolding signedOf before numberTo
+no-field : (x : List ℕ) → x ≡ [] → readSigned (before 9 x) ≡ aboveOf (numberTo 32767 (before 9 x))
+unfolding readSigned before numberTo
 no-field x e = rw e
 
 -- a field that starts with a minus, and one that doesn't
@@ -93,15 +93,15 @@ module _ (line : List ℕ) (from : ℕ) where
       let k : suc from ≡ from + 1 = omega arith in
       rw (drop-cons line from 0 h, e) (ap (λ (j : ℕ). 45 ∷ before 9 (drop j line)) k)
 
-  pub minus-signed : hasMinus line from ≡ true → signedOf (fieldAt line from) ≡ signedNumber true (numberOf (fieldAt line (from + 1)))
-  unfolding signedOf
-  minus-signed t = ap signedOf (minus-field t) ∙ signed-below (fieldAt line (from + 1))
+  pub minus-signed : hasMinus line from ≡ true → readSigned (fieldAt line from) ≡ signedNumber true (readNumber (fieldAt line (from + 1)))
+  unfolding readSigned
+  minus-signed t = ap readSigned (minus-field t) ∙ signed-below (fieldAt line (from + 1))
 
-  pub plain-signed : hasMinus line from ≡ false → signedOf (fieldAt line from) ≡ signedNumber false (numberOf (fieldAt line from))
+  pub plain-signed : hasMinus line from ≡ false → readSigned (fieldAt line from) ≡ signedNumber false (readNumber (fieldAt line from))
   plain-signed t =
       by-order from (length line)
       (λ h.
-      ap (λ (x : List ℕ). signedOf (before 9 x)) (drop-cons line from 0 h)
+      ap (λ (x : List ℕ). readSigned (before 9 x)) (drop-cons line from 0 h)
       ∙ no-minus (getD line from 0) (drop (suc from) line) (rw (lt-ltb from (length line) h) at t)
       ∙ ap (λ (x : List ℕ). aboveOf (numberTo 32767 (before 9 x))) (sym (drop-cons line from 0 h)))
       (λ h. no-field (drop from line) (drop-of-length-le line h))

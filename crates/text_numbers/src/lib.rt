@@ -2,7 +2,7 @@
 ghost use mathlib.Core.Path.{_≡_};
 ghost use Prim.Native.Nat.{_-_, _≤_};
 ghost use lib.ListN.{length};
-ghost use Rattle.text_numbers.specs.Numbers.{digitsTo, numberTo, numberOf, negative};
+ghost use Rattle.text_numbers.specs.Numbers.{digitsTo, numberTo, readNumber, negative};
 ghost use Rattle.text_numbers.specs.Signs.{withSign, pastMinus};
 use laws::wide;
 
@@ -59,7 +59,7 @@ fn number_to(field: &[u8], most: u16) -> Number
 
 // A field as a number 0..65535.
 pub fn read_number(field: &[u8]) -> Number
-    ensures { λ r. ⌜ r ≡ numberOf (now (field .entry)) ⌝ }
+    ensures { λ r. ⌜ r ≡ readNumber (now (field .entry)) ⌝ }
 {
     number_to(field, 65535)
 }

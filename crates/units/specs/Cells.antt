@@ -9,21 +9,21 @@ use borrow.Author.Tests.{ltb-true, ltb-false, lt-ltb, le-ltb}
 use Rattle.laws.specs.Tests.{by-test}
 
 -- How many entries of an array of ten are cells, if a page or a sample says `count`: a larger number stands for ten.
-abbrev pub lookedAt : ℕ → ℕ
-lookedAt count = cond (ltb count 10) count 10
+abbrev pub tenAtMost : ℕ → ℕ
+tenAtMost count = cond (ltb count 10) count 10
 
-pub looked-below : (count : ℕ) → count < 10 → lookedAt count ≡ count
-looked-below count h = rw (lt-ltb count 10 h)
+pub ten-below : (count : ℕ) → count < 10 → tenAtMost count ≡ count
+ten-below count h = rw (lt-ltb count 10 h)
 
-pub looked-over : (count : ℕ) → 10 ≤ count → lookedAt count ≡ 10
-looked-over count h = rw (le-ltb count 10 h)
+pub ten-over : (count : ℕ) → 10 ≤ count → tenAtMost count ≡ 10
+ten-over count h = rw (le-ltb count 10 h)
 
-pub looked-most : (count : ℕ) → lookedAt count ≤ 10
-looked-most count = by-test (ltb count 10) (λ e. rw e (let h = ltb-true count 10 e in omega arith)) (λ e. rw e (omega arith))
+pub ten-most : (count : ℕ) → tenAtMost count ≤ 10
+ten-most count = by-test (ltb count 10) (λ e. rw e (let h = ltb-true count 10 e in omega arith)) (λ e. rw e (omega arith))
 
 -- Of ten cells or fewer, all are looked at.
-pub looked-all : (count : ℕ) → count ≤ 10 → lookedAt count ≡ count
-looked-all count h =
+pub ten-all : (count : ℕ) → count ≤ 10 → tenAtMost count ≡ count
+ten-all count h =
     by-test (ltb count 10)
     (λ e. rw e)
     (λ e. let q = ltb-false count 10 e in rw e (let z : 10 ≡ count = omega arith in z))

@@ -1,6 +1,6 @@
 // The kinds of number that may not be mixed, and a 16-bit word as a signed number and back.
 ghost use mathlib.Core.Path.{_≡_};
-ghost use Rattle.units.specs.Cells.{lookedAt};
+ghost use Rattle.units.specs.Cells.{tenAtMost};
 ghost use Rattle.units.specs.Signed.{signedOf, wordOf};
 
 // Millivolts: a cell, the balance floor and difference, the charging voltage.
@@ -22,8 +22,8 @@ pub struct Level(pub i32);
 pub struct PageLevel(pub i32);
 
 // How many entries of an array of ten are cells: a number over ten stands for ten.
-pub fn looked_at(count: u8) -> usize
-    ensures { λ r. ⌜ r ≡ lookedAt count ⌝ }
+pub fn ten_at_most(count: u8) -> usize
+    ensures { λ r. ⌜ r ≡ tenAtMost count ⌝ }
 {
     if count < 10 {
         return count as usize;

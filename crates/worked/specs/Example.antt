@@ -63,23 +63,23 @@ pageLine = quoted "page\t1\t0\n"
 pub example : replayed page log ∷ replayed [] log ∷ [] ≡ written ∷ pageLine ∷ []
 unfolding laws-bits.hasBit laws-bits.withBitIf laws-each.eachTo units-signed.signedOf protections-table.rowAt crc-checkbyte.timesX
     crc-checkbyte.timesXs crc-checkbyte.withByte crc-checkbyte.remainder crc-checkbyte.checkByte text-decimal.decimal text-fields.fieldsOf
-    text-finding.lacks numbers-numbers.digitsTo numbers-numbers.numberTo numbers-numbers.signedOf lines-lines.linesOf lines-output.answers
+    text-finding.lacks numbers-numbers.digitsTo numbers-numbers.numberTo numbers-numbers.readSigned lines-lines.linesOf lines-output.answers
     lines-output.output ranges-ranges.wordAt ranges-ranges.within ranges-ranges.degreesFit ranges-ranges.levelFits ranges-ranges.levelOf
     faults-kinds.kindOf faults-met.levelMet faults-met.orderMet faults-met.onRow faults-met.kindMeets faults-met.meets
     page-page.refusals page-page.judged settings-settings.inDegrees settings-settings.sampleLevel settings-settings.limitsFrom
     settings-settings.limitsOf settings-settings.rulesOf settings-settings.settingsOf settings-settings.noSettings
-    settings-settings.loadedOf quantities-cells.bestOf quantities-cells.widen quantities-cells.extremesOf laws-numbered.listFrom
-    laws-numbered.listOf guard-steps.raised guard-steps.protectionOf guard-steps.protectionsOf guard-steps.stepOne guard-steps.stepWith
-    guard-steps.stepAllWith guard-steps.clear guard-steps.clearAt laws-words.bitsOf laws-words.anyOf raised-words.raisedBits
-    raised-words.anyRaised raised-words.blocksOne raised-words.blocksAny wishes-steps.cellOf turns-steps.runOf
-    wishes-steps.wishes wishes-steps.wantingWord turns-steps.rested turns-steps.restingWord turns-steps.nextCell laws-latest.nextRun
+    settings-settings.loadedOf quantities-cells.bestOf quantities-cells.widened quantities-cells.extremesOf laws-numbered.listFrom
+    laws-numbered.listOf guard-steps.raised guard-steps.protectionAfter guard-steps.protectionsAfter guard-steps.stepOne guard-steps.stepAt
+    guard-steps.stepAll guard-steps.clear guard-steps.clearAt laws-words.bitsOf laws-words.anyOf raised-words.raisedWord
+    raised-words.anyRaised raised-words.blocksOne raised-words.blocksAny wishes-steps.voltsOf turns-steps.cellRunOf
+    wishes-steps.wishes wishes-steps.wantingWord turns-steps.runReached turns-steps.restingWord turns-steps.nextCell laws-latest.nextRun
     turns-steps.nextRuns walk-steps.isCell walk-steps.chosenWord walk-steps.besideTaken walk-steps.mayTake walk-steps.takeOne walk-steps.takeFrom
-    wishes-wants.wants wishes-word.inWord walk-word.withCellIf wishes-word.wordTo samples-samples.cellsFit samples-samples.sampleRefusals
+    wishes-wants.wants wishes-word.holdsCell walk-word.withCellIf wishes-word.cellsPassing samples-samples.cellsFit samples-samples.sampleRefusals
     samples-samples.sampleVerdict samples-samples.commandRefusals samples-samples.commandVerdict samples-samples.keptCell
     samples-samples.trimmed pack-kept.afterLoad shown-shown.modeOrder shown-shown.firstMode shown-shown.switchesOf shown-shown.modeOf
-    shown-shown.decisionOf state-state.nextTick state-state.freshBalance state-state.nextBalance state-state.wantWith
+    shown-shown.decisionOf state-state.nextTick state-state.freshBalance state-state.nextBalance state-state.wantAt
     state-state.acceptedPack state-state.freshPack pack-answers.offered pack-answers.withCommand pack-answers.commanded
-    entries-entry.commandOf entries-entry.cellsFrom entries-entry.secondOf entries-entry.firstOf entries-entry.sampleOf
-    entries-entry.fieldsSay entries-entry.entryOf log-answers-tell.outcomeOf log-answers-tell.tell text-fields.lineOf answers-texts.headerText
+    entries-entry.readCommand entries-entry.cellsFrom entries-entry.secondOf entries-entry.firstOf entries-entry.readSample
+    entries-entry.fieldsSay entries-entry.readEntry log-answers-tell.outcomeOf log-answers-tell.tell text-fields.lineOf answers-texts.headerText
     answers-texts.pageText answers-texts.decisionText answers-texts.refusedText log-replay.replayed
 example = refl

@@ -7,8 +7,8 @@ use Rattle.laws.specs.Bits.{hasBit, withBit, withBitIf}
 use Rattle.laws.specs.Each.{eachTo}
 use Rattle.laws.specs.Latest.{nextRun}
 use Rattle.laws.specs.Words.{bitsOf}
-use Rattle.bleed_wants.specs.Word.{wordTo}
-use Rattle.bleed.specs.Resting.Steps.{nextCell, nextRuns, runOf, rested, restingWord}
+use Rattle.bleed_wants.specs.Word.{cellsPassing}
+use Rattle.bleed.specs.Resting.Steps.{nextCell, nextRuns, cellRunOf, runReached, restingWord}
 
 abbrev counters : List ℕ
 counters = 2 ∷ 1 ∷ 2 ∷ 240 ∷ 0 ∷ 0 ∷ 0 ∷ 0 ∷ 0 ∷ 3 ∷ []
@@ -17,7 +17,7 @@ counters = 2 ∷ 1 ∷ 2 ∷ 240 ∷ 0 ∷ 0 ∷ 0 ∷ 0 ∷ 0 ∷ 3 ∷ []
 counters-rest :
     restingWord 3 2 1 counters ∷ restingWord 3 3 1 counters ∷ restingWord 3 2 0 counters ∷ restingWord 10 2 1 counters ∷ restingWord 11 2 1 counters ∷ []
     ≡ 0x005 ∷ 0 ∷ 0 ∷ 0x20D ∷ 0x20D ∷ []
-unfolding restingWord wordTo bitsOf rested runOf withBitIf withBit
+unfolding restingWord cellsPassing bitsOf runReached cellRunOf withBitIf withBit
 counters-rest = refl
 
 -- The run of a bled cell goes on, that of another ends: cells 1, 3 and 10 are bled.

@@ -12,8 +12,8 @@ use borrow.Author.Tests.{lt-leb}
 use Rattle.laws.specs.Bits.{hasBit, has-zero}
 use Rattle.laws.specs.Each.{each-next, each-length, each-below}
 use Rattle.laws.specs.Latest.{nextRun}
-use Rattle.bleed_wants.specs.Word.{wordTo, wordTo-none}
-use Rattle.bleed.specs.Resting.Steps.{nextRunsTo, nextRuns, runOf, rested}
+use Rattle.bleed_wants.specs.Word.{cellsPassing, cellsPassing-none}
+use Rattle.bleed.specs.Resting.Steps.{nextRunsTo, nextRuns, cellRunOf, runReached}
 
 -- Every run ends where no cell was bled.
 pub runs-none : (runs : List ℕ) → length runs ≡ 10 → nextRuns 0 runs ≡ replicate 10 0
@@ -31,9 +31,9 @@ zeros (suc m) zero = refl
 zeros (suc m) (suc i) = zeros m i
 
 -- Nobody rests where no run is left.
-pub none-rest : (m R : ℕ) → 1 ≤ R → wordTo m (rested R (replicate 10 0)) ≡ 0
-unfolding rested runOf
-none-rest m R h = wordTo-none _ _ (λ k. rw (zeros 10 (k - 1)) (lt-leb R 0 h))
+pub none-rest : (m R : ℕ) → 1 ≤ R → cellsPassing m (runReached R (replicate 10 0)) ≡ 0
+unfolding runReached cellRunOf
+none-rest m R h = cellsPassing-none _ _ (λ k. rw (zeros 10 (k - 1)) (lt-leb R 0 h))
 
 -- ---- one turn of each loop
 
@@ -43,6 +43,6 @@ runs-next bled i runs l b r e eb er =
     each-next 0 (λ j run. nextRun (hasBit bled j) run) i runs l r e (er ∙ ap (λ (x : Bool). nextRun x (getD l i 0)) eb)
 
 -- Cell i + 1 is entry i of the array.
-pub rested-at : (n R : ℕ) (runs : List ℕ) (i : ℕ) → ltb i n && leb R (getD runs i 0) ≡ ltb i n && rested R runs (suc i)
-unfolding rested runOf
-rested-at n R runs i = let e : suc i - 1 ≡ i = omega arith in rw e
+pub run-reached-at : (n R : ℕ) (runs : List ℕ) (i : ℕ) → ltb i n && leb R (getD runs i 0) ≡ ltb i n && runReached R runs (suc i)
+unfolding runReached cellRunOf
+run-reached-at n R runs i = let e : suc i - 1 ≡ i = omega arith in rw e

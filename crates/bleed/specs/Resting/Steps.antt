@@ -8,8 +8,8 @@ use lib.ListN.{getD}
 use Rattle.laws.specs.Bits.{hasBit}
 use Rattle.laws.specs.Each.{eachTo}
 use Rattle.laws.specs.Latest.{nextRun}
-use Rattle.bleed_wants.specs.Word.{wordTo}
-use Rattle.units.specs.Cells.{lookedAt}
+use Rattle.bleed_wants.specs.Word.{cellsPassing}
+use Rattle.units.specs.Cells.{tenAtMost}
 
 -- The cell after k, from n to 1.
 unfoldable pub nextCell : ℕ → ℕ → ℕ
@@ -24,14 +24,14 @@ unfoldable pub nextRuns : ℕ → List ℕ → List ℕ
 nextRuns bled runs = nextRunsTo bled 10 runs
 
 -- The run counter of cell k, from an array whose first entry is cell 1's.
-unfoldable pub runOf : List ℕ → ℕ → ℕ
-runOf runs k = getD runs (k - 1) 0
+unfoldable pub cellRunOf : List ℕ → ℕ → ℕ
+cellRunOf runs k = getD runs (k - 1) 0
 
 -- The run of bled samples of cell k has reached R.
-unfoldable pub rested : ℕ → List ℕ → ℕ → Bool
-rested R runs k = leb R (runOf runs k)
+unfoldable pub runReached : ℕ → List ℕ → ℕ → Bool
+runReached R runs k = leb R (cellRunOf runs k)
 
 -- The word of the cells that rest, from the cells bled at the sample before and the run counters: nobody rests where nobody was bled.
 -- Who rests is defined from the history, `resting` in Walk/History; `resting-is` in Walk/Balance says that this word has just those.
 unfoldable pub restingWord : ℕ → ℕ → ℕ → List ℕ → ℕ
-restingWord n R bled runs = cond (eqb bled 0) 0 (wordTo (lookedAt n) (rested R runs))
+restingWord n R bled runs = cond (eqb bled 0) 0 (cellsPassing (tenAtMost n) (runReached R runs))

@@ -18,10 +18,10 @@ use Rattle.laws.specs.Latest.{lastAll, among}
 use Rattle.bleed.specs.Resting.Steps.{nextCell}
 use Rattle.bleed.specs.Walk.Walk.{has, upFrom}
 use Rattle.bleed.specs.Walk.History.{wantsCell, bleds}
-use Rattle.bleed_wants.specs.Word.{inWord}
-use Rattle.bleed.specs.Walk.Word.{withCellIf, wordOf}
+use Rattle.bleed_wants.specs.Word.{holdsCell}
+use Rattle.bleed.specs.Walk.Word.{withCellIf, cellsWord}
 use Rattle.bleed.specs.Walk.Steps.{isCell, chosenWord, besideTaken, mayTake, takeOne, takeFrom}
-use Rattle.bleed.specs.Walk.Balance.{runsOf, bledWord}
+use Rattle.bleed.specs.Walk.Balance.{runsAfter, bledWordAfter}
 
 -- The cells that want at each sample, in the order of time, as a history of wishes.
 abbrev pub history : List (List ℕ) → List (ℕ → Bool)
@@ -72,19 +72,19 @@ wish-is-asked : lastAll 1 (wantsCell 1) (history ([] ∷ [])) ∷ lastAll 1 (wan
 wish-is-asked = refl
 
 -- What is kept after five samples with R 2 at which cell 1 always wants, and after three: its run, and the word of the bled.
-kept-after-five : runsOf 2 1 2 (history (replicate 5 (1 ∷ []))) ≡ 2 ∷ 0 ∷ 0 ∷ 0 ∷ 0 ∷ 0 ∷ 0 ∷ 0 ∷ 0 ∷ 0 ∷ []
-unfolding runsOf
+kept-after-five : runsAfter 2 1 2 (history (replicate 5 (1 ∷ []))) ≡ 2 ∷ 0 ∷ 0 ∷ 0 ∷ 0 ∷ 0 ∷ 0 ∷ 0 ∷ 0 ∷ 0 ∷ []
+unfolding runsAfter
 kept-after-five = refl
 
-word-after : map (λ (m : ℕ). bledWord 2 1 2 (history (replicate m (1 ∷ [])))) (0 ∷ 2 ∷ 3 ∷ 5 ∷ []) ≡ 0 ∷ 1 ∷ 0 ∷ 1 ∷ []
-unfolding bledWord withBit
+word-after : map (λ (m : ℕ). bledWordAfter 2 1 2 (history (replicate m (1 ∷ [])))) (0 ∷ 2 ∷ 3 ∷ 5 ∷ []) ≡ 0 ∷ 1 ∷ 0 ∷ 1 ∷ []
+unfolding bledWordAfter withBit
 word-after = refl
 
 -- The walk's word: from cell 2 on, around the end, from no cell, and of more than ten cells.
 words-chosen :
     chosenWord 3 1 7 0 2 ∷ chosenWord 3 1 1 0 3 ∷ chosenWord 3 1 7 0 4 ∷ chosenWord 3 1 7 0 0 ∷ chosenWord 11 1 7 0 1 ∷ chosenWord 10 5 0x3FF 1 1 ∷ []
     ≡ 2 ∷ 1 ∷ 0 ∷ 0 ∷ 0 ∷ 0x2AA ∷ []
-unfolding chosenWord isCell inWord hasBit withBit
+unfolding chosenWord isCell holdsCell hasBit withBit
 words-chosen = refl
 
 -- One cell of the code's walk: beside cell 2 stand cells 1 and 3, beside cell 1 cell 2 alone.
@@ -96,16 +96,16 @@ cells-beside = refl
 one-taken :
     takeOne 1 7 0 0 2 ∷ takeOne 1 7 2 0 2 ∷ takeOne 1 7 4 0 3 ∷ takeOne 1 7 4 0 2 ∷ takeOne 2 7 0 1 2 ∷ takeOne 1 7 0 4 1 ∷ takeOne 2 7 0 4 1 ∷ takeOne 2 5 0 0 2 ∷ []
     ≡ 2 ∷ 0 ∷ 0 ∷ 2 ∷ 1 ∷ 4 ∷ 5 ∷ 0 ∷ []
-unfolding takeOne mayTake besideTaken inWord hasBit withCellIf withBitIf withBit ones onesIn
+unfolding takeOne mayTake besideTaken holdsCell hasBit withCellIf withBitIf withBit ones onesIn
 one-taken = refl
 
 -- Three cells in a row, from cell 2 and from cell 3 on.
 all-taken : takeFrom 3 3 1 7 0 2 0 ∷ takeFrom 3 3 2 7 0 3 0 ∷ takeFrom 1 3 2 7 0 3 0 ∷ [] ≡ 2 ∷ 5 ∷ 4 ∷ []
-unfolding takeFrom takeOne mayTake besideTaken inWord hasBit withCellIf withBitIf withBit nextCell ones onesIn
+unfolding takeFrom takeOne mayTake besideTaken holdsCell hasBit withCellIf withBitIf withBit nextCell ones onesIn
 all-taken = refl
 
 -- Cell 1 is bit 0, cell 10 is bit 9.
-ends-of-a-word : wordOf (1 ∷ 10 ∷ []) ≡ 0x201
+ends-of-a-word : cellsWord (1 ∷ 10 ∷ []) ≡ 0x201
 unfolding withBit
 ends-of-a-word = refl
 

@@ -14,11 +14,11 @@ use lib.ListN.{length, length-append}
 use borrow.Author.Tests.{lt-ltb, le-ltb, ltb-true, ltb-false, le-leb, leb-true, eq-eqb, ne-eqb, eqb-true}
 use Rattle.laws.specs.Tests.{by-test, by-order, clash, test-ext, and-left, and-right, or-left, or-right, or-cases}
 use Rattle.laws.specs.Bits.{hasBit, withBitIf, has-zero}
-use Rattle.bleed_wants.specs.Word.{inWord, in-none}
+use Rattle.bleed_wants.specs.Word.{holdsCell, in-none}
 use Rattle.bleed.specs.Resting.Steps.{nextCell}
 use Rattle.bleed.specs.Walk.Walk.{has, neighbours, hasNeighbour, upFrom, order, takes, walk, chosen}
 use Rattle.bleed.specs.Walk.WalkLaws.{neighbour-of, has-append, upFrom-only, order-only, at-most-K, no-neighbours, only-cells, walk-none}
-use Rattle.bleed.specs.Walk.Word.{withCellIf, wordOf, Small, Once, wordOf-bit, wordOf-ones, wordOf-few}
+use Rattle.bleed.specs.Walk.Word.{withCellIf, cellsWord, Small, Once, cellsWord-bit, cellsWord-ones, cellsWord-few}
 use Rattle.bleed.specs.Walk.Steps.{isCell, chosenWord, Chosen, besideTaken, mayTake, takeOne, takeFrom}
 
 -- ---- the order of the walk is the next cell, again and again
@@ -94,10 +94,10 @@ neighbour-cases k (d ∷ t) e =
     (neighbour-cases k t u))
     (or-cases (neighbours k d) (hasNeighbour k t) e)
 
-beside-is : (t : List ℕ) (k : ℕ) → Small t → besideTaken (wordOf t) k ≡ hasNeighbour k t
+beside-is : (t : List ℕ) (k : ℕ) → Small t → besideTaken (cellsWord t) k ≡ hasNeighbour k t
 unfolding besideTaken
 beside-is t k s =
-    rw (wordOf-bit t (k - 2) s, wordOf-bit t k s) (test-ext (ltb 1 k && has (suc (k - 2)) t || has (suc k) t) (hasNeighbour k t)
+    rw (cellsWord-bit t (k - 2) s, cellsWord-bit t k s) (test-ext (ltb 1 k && has (suc (k - 2)) t || has (suc k) t) (hasNeighbour k t)
     (λ u. ⊎-elim
     (λ v.
     let p = ltb-true 1 k (and-left (ltb 1 k) (has (suc (k - 2)) t) v) in
@@ -123,20 +123,20 @@ pub beside-after : (taken k : ℕ) → (1 < k → hasBit taken (k - 2) ≡ false
 unfolding besideTaken
 beside-after taken k h = by-order 1 k (λ q. rw (lt-ltb 1 k q, h q)) (λ q. rw (le-ltb 1 k q))
 
-pub may-unwilling : (K want rest taken k : ℕ) → inWord want k ≡ false → mayTake K want rest taken k ≡ false
+pub may-unwilling : (K want rest taken k : ℕ) → holdsCell want k ≡ false → mayTake K want rest taken k ≡ false
 unfolding mayTake
 may-unwilling K want rest taken k w = rw w
 
-pub may-resting : (K want rest taken k : ℕ) → inWord want k ≡ true → inWord rest k ≡ true → mayTake K want rest taken k ≡ false
+pub may-resting : (K want rest taken k : ℕ) → holdsCell want k ≡ true → holdsCell rest k ≡ true → mayTake K want rest taken k ≡ false
 unfolding mayTake
 may-resting K want rest taken k w r = rw (w, r)
 
-pub may-beside : (K want rest taken k : ℕ) → inWord want k ≡ true → inWord rest k ≡ false → besideTaken taken k ≡ true
+pub may-beside : (K want rest taken k : ℕ) → holdsCell want k ≡ true → holdsCell rest k ≡ false → besideTaken taken k ≡ true
     → mayTake K want rest taken k ≡ false
 unfolding mayTake
 may-beside K want rest taken k w r b = rw (w, r, b)
 
-pub may-few : (K want rest taken k : ℕ) → inWord want k ≡ true → inWord rest k ≡ false → besideTaken taken k ≡ false
+pub may-few : (K want rest taken k : ℕ) → holdsCell want k ≡ true → holdsCell rest k ≡ false → besideTaken taken k ≡ false
     → mayTake K want rest taken k ≡ ltb (ones taken) K
 unfolding mayTake
 may-few K want rest taken k w r b = rw (w, r, b)
@@ -158,26 +158,26 @@ new-more true k cells t h new d e =
 new-more false k cells t h new d e = new d (or-right (eqb d k) (has d cells) e)
 
 module _ (n K want rest : ℕ) where
-  may-is : (t : List ℕ) (k : ℕ) → Small t → Once t → mayTake K want rest (wordOf t) k ≡ takes K (inWord want) (inWord rest) k t
+  may-is : (t : List ℕ) (k : ℕ) → Small t → Once t → mayTake K want rest (cellsWord t) k ≡ takes K (holdsCell want) (holdsCell rest) k t
   unfolding mayTake
-  may-is t k s o = rw (beside-is t k s, wordOf-ones t s o)
+  may-is t k s o = rw (beside-is t k s, cellsWord-ones t s o)
 
   -- One cell of the walk.
   one-is : (t : List ℕ) (k : ℕ) → Small t → Once t → 1 ≤ k
-      → takeOne K want rest (wordOf t) k ≡ wordOf (cond (takes K (inWord want) (inWord rest) k t) (k ∷ t) t)
+      → takeOne K want rest (cellsWord t) k ≡ cellsWord (cond (takes K (holdsCell want) (holdsCell rest) k t) (k ∷ t) t)
   unfolding takeOne withCellIf withBitIf
   one-is t k s o h =
-      rw (may-is t k s o, lt-ltb 0 k h) (by-test (takes K (inWord want) (inWord rest) k t) (λ u. rw u) (λ u. rw u))
+      rw (may-is t k s o, lt-ltb 0 k h) (by-test (takes K (holdsCell want) (holdsCell rest) k t) (λ u. rw u) (λ u. rw u))
 
   -- The rest of the walk, over the cells that are left, none of which was asked before.
   walk-is : (cells t : List ℕ) (k : ℕ) → Way n k cells → Small cells → Once cells → Small t → Once t
       → ((d : ℕ) → has d cells ≡ true → has d t ≡ false)
-      → takeFrom (length cells) n K want rest k (wordOf t) ≡ wordOf (walk K (inWord want) (inWord rest) cells t)
+      → takeFrom (length cells) n K want rest k (cellsWord t) ≡ cellsWord (walk K (holdsCell want) (holdsCell rest) cells t)
   unfolding takeFrom
   walk-is [] t k w sc oc st ot new = refl
   walk-is (c ∷ cells) t k w sc oc st ot new =
       let mine : has c (c ∷ cells) ≡ true = or-left (eqb c c) (has c cells) (eq-eqb c c refl) in
-      let b : Bool = takes K (inWord want) (inWord rest) c t in
+      let b : Bool = takes K (holdsCell want) (holdsCell rest) c t in
       rw (← (w .0)) (ap (takeFrom (length cells) n K want rest (nextCell n c)) (one-is t c st ot (sc c mine .0))
       ∙ walk-is cells (cond b (c ∷ t) t) (nextCell n c) (rw (← (w .0)) at (w .1)) (λ d e. sc d (or-right (eqb d c) (has d cells) e)) (oc .1)
       (small-more b c t (sc c mine) st) (once-more b c t (new c mine) ot) (new-more b c cells t (oc .0) new))
@@ -208,7 +208,7 @@ cell-is n k c = rw (lt-ltb 0 k (c .first), le-leb k n (c .last), le-leb n 10 (c 
 
 module _ (n K want rest start : ℕ) where
   -- From a cell of the pack it is the word of the walk's cells,
-  pub chosen-walked : InPack n start → chosenWord n K want rest start ≡ wordOf (chosen n K (inWord want) (inWord rest) start)
+  pub chosen-walked : InPack n start → chosenWord n K want rest start ≡ cellsWord (chosen n K (holdsCell want) (holdsCell rest) start)
   unfolding chosenWord
   chosen-walked c = rw (cell-is n start c)
 
@@ -231,7 +231,7 @@ module _ (n K want rest start : ℕ) where
   unfolding ones onesIn
   chosen-few =
       by-test (isCell n start)
-      (λ t. rw (chosen-walked (cell-says n start t)) (le-trans (wordOf-few (chosen n K (inWord want) (inWord rest) start)) (at-most-K n K (inWord want) (inWord rest) start)))
+      (λ t. rw (chosen-walked (cell-says n start t)) (le-trans (cellsWord-few (chosen n K (holdsCell want) (holdsCell rest) start)) (at-most-K n K (holdsCell want) (holdsCell rest) start)))
       (λ t. rw (chosen-nowhere t) zero-le)
 
   -- and no two neighbouring ones.
@@ -241,11 +241,11 @@ module _ (n K want rest start : ℕ) where
       (λ t.
       let c = cell-says n start t in
       let e = chosen-walked c in
-      let b : List ℕ = chosen n K (inWord want) (inWord rest) start in
+      let b : List ℕ = chosen n K (holdsCell want) (holdsCell rest) start in
       let small : Small b =
-      λ k h. let s = only-cells n K (inWord want) (inWord rest) start k (c .first) (c .last) h in let u = c .ten in (s .0, omega arith) in
-      no-neighbours n K (inWord want) (inWord rest) start (suc i)
-      (sym (wordOf-bit b i small) ∙ (rw e at p)) (sym (wordOf-bit b (suc i) small) ∙ (rw (e, add-one) at q)))
+      λ k h. let s = only-cells n K (holdsCell want) (holdsCell rest) start k (c .first) (c .last) h in let u = c .ten in (s .0, omega arith) in
+      no-neighbours n K (holdsCell want) (holdsCell rest) start (suc i)
+      (sym (cellsWord-bit b i small) ∙ (rw e at p)) (sym (cellsWord-bit b (suc i) small) ∙ (rw (e, add-one) at q)))
       (λ t. clash p (ap (λ (w : ℕ). hasBit w i) (chosen-nowhere t) ∙ has-zero i))
 
   -- What `choose` promises of the walk's word.
@@ -259,7 +259,7 @@ module _ (n K want rest start : ℕ) where
 pub chosen-none : (n K rest start : ℕ) → chosenWord n K 0 rest start ≡ 0
 chosen-none n K rest start =
     by-test (isCell n start)
-    (λ t. chosen-walked n K 0 rest start (cell-says n start t) ∙ ap wordOf (walk-none K (inWord 0) (inWord rest) in-none (order n start) []))
+    (λ t. chosen-walked n K 0 rest start (cell-says n start t) ∙ ap cellsWord (walk-none K (holdsCell 0) (holdsCell rest) in-none (order n start) []))
     (λ t. chosen-nowhere n K 0 rest start t)
 
 -- ---- one turn of the loop

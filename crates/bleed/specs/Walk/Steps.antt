@@ -6,10 +6,10 @@ use Prim.Native.Nat.{ℕ, zero, suc, _+_, _-_, _≤_}
 use lib.Dec.{leb, ltb}
 use lib.Count.{ones}
 use Rattle.laws.specs.Bits.{hasBit}
-use Rattle.bleed_wants.specs.Word.{inWord}
+use Rattle.bleed_wants.specs.Word.{holdsCell}
 use Rattle.bleed.specs.Resting.Steps.{nextCell}
 use Rattle.bleed.specs.Walk.Walk.{chosen}
-use Rattle.bleed.specs.Walk.Word.{withCellIf, wordOf}
+use Rattle.bleed.specs.Walk.Word.{withCellIf, cellsWord}
 
 -- Cell k is one of the cells 1 to n, and they are ten at most.
 unfoldable pub isCell : ℕ → ℕ → Bool
@@ -17,7 +17,7 @@ isCell n k = ltb 0 k && leb k n && leb n 10
 
 -- The word of the walk's cells: which cells want and which rest are words too. A start that is no cell gives none.
 unfoldable pub chosenWord : ℕ → ℕ → ℕ → ℕ → ℕ → ℕ
-chosenWord n K want rest start = cond (isCell n start) (wordOf (chosen n K (inWord want) (inWord rest) start)) 0
+chosenWord n K want rest start = cond (isCell n start) (cellsWord (chosen n K (holdsCell want) (holdsCell rest) start)) 0
 
 -- What is promised of the chosen word: it is the walk's, it has no more set bits than K, and no two neighbouring bits.
 pub record Chosen (n K want rest start word : ℕ) : Type 0 where
@@ -32,7 +32,7 @@ unfoldable pub besideTaken : ℕ → ℕ → Bool
 besideTaken taken k = ltb 1 k && hasBit taken (k - 2) || hasBit taken k
 
 unfoldable pub mayTake : ℕ → ℕ → ℕ → ℕ → ℕ → Bool
-mayTake K want rest taken k = inWord want k && not (inWord rest k) && not (besideTaken taken k) && ltb (ones taken) K
+mayTake K want rest taken k = holdsCell want k && not (holdsCell rest k) && not (besideTaken taken k) && ltb (ones taken) K
 
 unfoldable pub takeOne : ℕ → ℕ → ℕ → ℕ → ℕ → ℕ
 takeOne K want rest taken k = withCellIf (mayTake K want rest taken k) taken k

@@ -19,9 +19,9 @@ unfoldable pub withCellIf : Bool → ℕ → ℕ → ℕ
 withCellIf b w k = cond (ltb 0 k) (withBitIf b w (k - 1)) w
 
 -- The word of a set: "bit k - 1 for bled cell k".
-abbrev pub wordOf : List ℕ → ℕ
-wordOf [] = 0
-wordOf (k ∷ l) = withBit (wordOf l) (k - 1)
+abbrev pub cellsWord : List ℕ → ℕ
+cellsWord [] = 0
+cellsWord (k ∷ l) = withBit (cellsWord l) (k - 1)
 
 -- ---- the word of a list of cells
 
@@ -36,17 +36,17 @@ tail-small : (d : ℕ) (l : List ℕ) → Small (d ∷ l) → Small l
 tail-small d l s k e = s k (or-right (eqb k d) (has k l) e)
 
 -- Bit i is set exactly if cell i + 1 is in the set.
-pub wordOf-bit : (l : List ℕ) (i : ℕ) → Small l → hasBit (wordOf l) i ≡ has (suc i) l
-wordOf-bit [] i s = has-zero i
-wordOf-bit (d ∷ l) i s =
+pub cellsWord-bit : (l : List ℕ) (i : ℕ) → Small l → hasBit (cellsWord l) i ≡ has (suc i) l
+cellsWord-bit [] i s = has-zero i
+cellsWord-bit (d ∷ l) i s =
     let q = head-small d l s in
     by-test (eqb (suc i) d)
     (λ t.
     let e : d - 1 ≡ i = let f = eqb-true (suc i) d t in omega arith in
-    rw (t, e) (has-same (wordOf l) i (let f = eqb-true (suc i) d t in omega arith)))
+    rw (t, e) (has-same (cellsWord l) i (let f = eqb-true (suc i) d t in omega arith)))
     (λ t.
     let ne : i ≡ d - 1 → ⊥ = λ e. eqb-false (suc i) d t (omega arith) in
-    rw t (has-other (wordOf l) (d - 1) i ne ∙ wordOf-bit l i (tail-small d l s)))
+    rw t (has-other (cellsWord l) (d - 1) i ne ∙ cellsWord-bit l i (tail-small d l s)))
 
 -- ---- how many cells it has
 
@@ -56,18 +56,18 @@ Once [] = Unit {0}
 Once (k ∷ l) = (has k l ≡ false) × Once l
 
 -- A word has as many set bits as its list has cells, if each stands once.
-pub wordOf-ones : (l : List ℕ) → Small l → Once l → ones (wordOf l) ≡ length l
+pub cellsWord-ones : (l : List ℕ) → Small l → Once l → ones (cellsWord l) ≡ length l
 unfolding ones onesIn
-wordOf-ones [] s o = refl
-wordOf-ones (k ∷ l) s o =
+cellsWord-ones [] s o = refl
+cellsWord-ones (k ∷ l) s o =
     let q = head-small k l s in
-    let i = wordOf-ones l (tail-small k l s) (o .1) in
+    let i = cellsWord-ones l (tail-small k l s) (o .1) in
     let e : suc (k - 1) ≡ k = omega arith in
-    let free : hasBit (wordOf l) (k - 1) ≡ false = wordOf-bit l (k - 1) (tail-small k l s) ∙ rw e (o .0) in
-    ones-new (wordOf l) (k - 1) (omega arith) free ∙ rw add-one (ap suc i)
+    let free : hasBit (cellsWord l) (k - 1) ≡ false = cellsWord-bit l (k - 1) (tail-small k l s) ∙ rw e (o .0) in
+    ones-new (cellsWord l) (k - 1) (omega arith) free ∙ rw add-one (ap suc i)
 
 -- and no more in any case.
-pub wordOf-few : (l : List ℕ) → ones (wordOf l) ≤ length l
+pub cellsWord-few : (l : List ℕ) → ones (cellsWord l) ≤ length l
 unfolding ones onesIn
-wordOf-few [] = zero-le
-wordOf-few (k ∷ l) = let i = wordOf-few l in let o = ones-with (wordOf l) (k - 1) in omega arith
+cellsWord-few [] = zero-le
+cellsWord-few (k ∷ l) = let i = cellsWord-few l in let o = ones-with (cellsWord l) (k - 1) in omega arith

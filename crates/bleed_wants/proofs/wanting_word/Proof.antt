@@ -7,8 +7,8 @@ use native.Mathlib.Omega.{arith}
 use borrow.Author.Needs.{needs}
 use borrow.Author.Tests.{not-true, not-false}
 use Rattle.laws.specs.Words.{bits-none, bits-next}
-use Rattle.units.specs.Cells.{looked-most}
-use Rattle.bleed_wants.specs.Word.{wordTo}
+use Rattle.units.specs.Cells.{ten-most}
+use Rattle.bleed_wants.specs.Word.{cellsPassing}
 use Rattle.bleed_wants.specs.Steps.{wishes, wantingWord}
 use Rattle.bleed_wants.specs.StepLaws.{wanting-none, wishes-at}
 use Rattle.bleed_wants.proofs.wanting_word.Statement.{statement}
@@ -16,7 +16,7 @@ use Rattle.bleed_wants.proofs.wanting_word.Tie as tie
 
 abbrev Inv-loop : tie.InvT-loop
 Inv-loop n charging raised floor difference lowest cells last word₀ i₀ word i =
-    (last ≤ 10) × (i ≤ last) × (word ≡ wordTo i (wishes charging raised (floor .0) (difference .0) (lowest .0) cells))
+    (last ≤ 10) × (i ≤ last) × (word ≡ cellsPassing i (wishes charging raised (floor .0) (difference .0) (lowest .0) cells))
 
 abbrev μ-loop : tie.MeasureT-loop
 μ-loop n charging raised floor difference lowest cells last word₀ i₀ word i = last - i
@@ -27,12 +27,12 @@ returns c = sym (wanting-none _ _ _ _ _ _ _ (inl (not-true _ (c .if1 .taken))))
 returns-2 : tie.Need-returns-2 Inv-loop μ-loop
 returns-2 c = sym (wanting-none _ _ _ _ _ _ _ (inr (c .if2 .taken)))
 
-looked-at-requires : tie.Need-looked-at-requires Inv-loop μ-loop
-looked-at-requires c κs = search needs
+ten-at-most-requires : tie.Need-ten-at-most-requires Inv-loop μ-loop
+ten-at-most-requires c κs = search needs
 
 loop-holds : tie.Need-loop-holds Inv-loop μ-loop
-unfolding wordTo
-loop-holds c = (rw (c .looked-at .ensures) (looked-most (c .before .before .before .args .n)), omega arith, bits-none _)
+unfolding cellsPassing
+loop-holds c = (rw (c .ten-at-most .ensures) (ten-most (c .before .before .before .args .n)), omega arith, bits-none _)
 
 mul-cell : tie.Need-mul-cell Inv-loop μ-loop
 mul-cell c = search needs
@@ -56,7 +56,7 @@ loop-less : tie.Need-loop-less Inv-loop μ-loop
 loop-less c = omega arith
 
 loop-again : tie.Need-loop-again Inv-loop μ-loop
-unfolding wordTo
+unfolding cellsPassing
 loop-again c = (
   omega arith,
   omega arith,
@@ -68,8 +68,8 @@ loop-again c = (
 returns-3 : tie.Need-returns-3 Inv-loop μ-loop
 unfolding wantingWord
 returns-3 c =
-    let e : c .before .loop .i ≡ c .before .before .looked-at .result = omega arith in
-    rw (← (c .before .before .looked-at .ensures), ← e) (c .before .loop .inv .2)
+    let e : c .before .loop .i ≡ c .before .before .ten-at-most .result = omega arith in
+    rw (← (c .before .before .ten-at-most .ensures), ← e) (c .before .loop .inv .2)
 
 pub wanting-word-spec : {M : Type 1} → statement M
 wanting-word-spec =
@@ -79,7 +79,7 @@ wanting-word-spec =
     μ-loop
     returns
     returns-2
-    looked-at-requires
+    ten-at-most-requires
     loop-holds
     mul-cell
     array-copy-out-cell

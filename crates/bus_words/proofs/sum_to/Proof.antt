@@ -1,6 +1,6 @@
 -- `bus_words::sum_to` meets its contract. The loop's invariant: `sum` is the sum of the first `i` cells. Assumes nothing.
 use Rattle.bus_words.specs.Words.{sumTo, sum-none, sum-next}
-use Rattle.units.specs.Cells.{looked-most}
+use Rattle.units.specs.Cells.{ten-most}
 use Prim.Native.Nat.{_-_, _*_, _≤_}
 use mathlib.Core.Path.{_≡_, ap, _∙_}
 use borrow.Author.Needs.{needs}
@@ -14,11 +14,11 @@ Inv-loop count cells n sum₀ i₀ sum i = (i ≤ n) × (n ≤ 10) × (sum ≤ 6
 abbrev μ-loop : tie.MeasureT-loop
 μ-loop count cells n sum₀ i₀ sum i = n - i
 
-looked-at-requires : tie.Need-looked-at-requires Inv-loop μ-loop
-looked-at-requires c κs = search needs
+ten-at-most-requires : tie.Need-ten-at-most-requires Inv-loop μ-loop
+ten-at-most-requires c κs = search needs
 
 loop-holds : tie.Need-loop-holds Inv-loop μ-loop
-loop-holds c = (omega arith, rw (c .looked-at .ensures) (looked-most (c .before .args .count)), omega arith, sum-none _)
+loop-holds c = (omega arith, rw (c .ten-at-most .ensures) (ten-most (c .before .args .count)), omega arith, sum-none _)
 
 mul-v : tie.Need-mul-v Inv-loop μ-loop
 mul-v c = search needs
@@ -42,7 +42,7 @@ loop-again : tie.Need-loop-again Inv-loop μ-loop
 loop-again c = (omega arith, omega arith, omega arith, sum-next _ _ _ (c .before .before .before .loop .inv .3))
 
 returns : tie.Need-returns Inv-loop μ-loop
-returns c = let e : c .before .loop .i ≡ c .before .before .looked-at .result = omega arith in c .before .loop .inv .3 ∙ ap (sumTo (c .before .before .before .args .t1)) (e ∙ c .before .before .looked-at .ensures)
+returns c = let e : c .before .loop .i ≡ c .before .before .ten-at-most .result = omega arith in c .before .loop .inv .3 ∙ ap (sumTo (c .before .before .before .args .t1)) (e ∙ c .before .before .ten-at-most .ensures)
 
 pub sum-to-spec : {M : Type 1} → statement M
 sum-to-spec =
@@ -50,7 +50,7 @@ sum-to-spec =
     (tie.spec
     Inv-loop
     μ-loop
-    looked-at-requires
+    ten-at-most-requires
     loop-holds
     mul-v
     array-copy-out-v

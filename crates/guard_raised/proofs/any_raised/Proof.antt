@@ -3,7 +3,7 @@ use native.Mathlib.Omega.{arith}
 use mathlib.Core.Path.{sym}
 use Rattle.laws.specs.Words.{any-bits}
 use Rattle.protections.specs.Table.{protections}
-use Rattle.guard_raised.specs.Words.{raisedAt, raisedBits, anyRaised}
+use Rattle.guard_raised.specs.Words.{raisedAt, raisedWord, anyRaised}
 use borrow.Author.Needs.{needs}
 use Rattle.guard_raised.proofs.any_raised.Statement.{statement}
 use Rattle.guard_raised.proofs.any_raised.Tie as tie
@@ -12,7 +12,7 @@ raised-word-requires : tie.Need-raised-word-requires
 raised-word-requires c κs = search needs
 
 returns : tie.Need-returns
-unfolding anyRaised raisedBits
+unfolding anyRaised raisedWord
 returns c = rw (c .raised-word .ensures) (sym (any-bits (raisedAt (c .before .args .ps)) protections (omega arith)))
 
 pub any-raised-spec : {M : Type 1} → statement M

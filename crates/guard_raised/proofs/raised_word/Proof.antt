@@ -3,7 +3,7 @@ use mathlib.Core.Path.{_≡_}
 use Prim.Native.Nat.{_-_, _≤_}
 use Rattle.laws.specs.Words.{bitsOf, bits-none, bits-next}
 use Rattle.protections.specs.Table.{protections}
-use Rattle.guard_raised.specs.Words.{raisedAt, raisedBits}
+use Rattle.guard_raised.specs.Words.{raisedAt, raisedWord}
 use borrow.Author.Needs.{needs}
 use native.Mathlib.Omega.{arith}
 use Rattle.guard_raised.proofs.raised_word.Statement.{statement}
@@ -43,7 +43,7 @@ loop-again : tie.Need-loop-again Inv-loop μ-loop
 loop-again c = (omega arith, bits-next _ _ _ _ _ (c .before .before .before .before .loop .inv .1) (c .before .is-raised .ensures) (c .with-bit-if .ensures))
 
 returns : tie.Need-returns Inv-loop μ-loop
-unfolding raisedBits
+unfolding raisedWord
 returns c = let e : c .before .loop .i ≡ protections = omega arith in rw e at (c .before .loop .inv .1)
 
 pub raised-word-spec : {M : Type 1} → statement M

@@ -8,7 +8,7 @@ use lib.ListN.{length}
 use borrow.Fn.Kinds.{Dens, resT, endedOf}
 use contract.Lifetimes.{Lfts}
 use denote.Triple.Clauses.{AtExit}
-use Rattle.log_lines.specs.Carrying.{carriedOf, movedDown}
+use Rattle.log_lines.specs.Carrying.{carried, moveDown}
 use Rattle.log_lines.specs.Chunk.{chunk-done, chunk-used, chunk-written, chunk-state, chunk-memory}
 use Rattle.pack_state.specs.declared.Pack.{Pack}
 use Rattle.log.specs.declared.chunk.Chunk.{Chunk}
@@ -55,12 +55,12 @@ module _ (buf d : List ℕ) (s : Pack) (x y : Fed) (b b' e e' : List ℕ) (p : F
   same = chunk-one buf d s (part x) (part y) e e' (p .chunk) (q .chunk)
 
   held-same : x .held ≡ y .held
-  held-same = p .carries ∙ ap (λ (c : Chunk). carriedOf (c .done) (length buf - c .used)) (same .0) ∙ sym (q .carries)
+  held-same = p .carries ∙ ap (λ (c : Chunk). carried (c .done) (length buf - c .used)) (same .0) ∙ sym (q .carries)
 
   fed-one : (x ≡ y) × (b ≡ b') × (e ≡ e')
   fed-one = (
     ap₂ fed (same .0) held-same,
-    p .moved ∙ ap₂ (λ (c : Chunk) (h : ℕ). movedDown buf (c .used) h) (same .0) held-same ∙ sym (q .moved),
+    p .moved ∙ ap₂ (λ (c : Chunk) (h : ℕ). moveDown buf (c .used) h) (same .0) held-same ∙ sym (q .moved),
     same .1,
   )
 

@@ -9,7 +9,7 @@ use borrow.Fn.Kinds.{Dens, resT, endedOf}
 use Rattle.laws.specs.Unique.{Unique}
 use contract.Lifetimes.{Lfts}
 use denote.Triple.Clauses.{AtExit}
-use Rattle.log_lines.specs.Carrying.{carriedOf, movedDown}
+use Rattle.log_lines.specs.Carrying.{carried, moveDown}
 use Rattle.log_lines.specs.Chunk.{chunk-used, chunk-state}
 use Rattle.pack_state.specs.declared.Pack.{Pack}
 use Rattle.log.specs.declared.pass.Gone.{Gone}
@@ -45,13 +45,13 @@ module _ (buf : List ℕ) (s : Pack) (x y : Rest) (b b' : List ℕ) (p : Pass bu
 
   held-same : x .held ≡ y .held
   unfolding front
-  held-same = p .carries ∙ ap (λ (g : Gone). carriedOf true (length buf - g .used)) same ∙ sym (q .carries)
+  held-same = p .carries ∙ ap (λ (g : Gone). carried true (length buf - g .used)) same ∙ sym (q .carries)
 
   rest-one : (x ≡ y) × (b ≡ b')
   unfolding front rest
   rest-one = (
     ap₂ rest same held-same,
-    p .moved ∙ ap₂ (λ (g : Gone) (h : ℕ). movedDown buf (g .used) h) same held-same ∙ sym (q .moved),
+    p .moved ∙ ap₂ (λ (g : Gone) (h : ℕ). moveDown buf (g .used) h) same held-same ∙ sym (q .moved),
   )
 
 pass-one : (κs : Lfts 1) (a : Dens κs pass-kinds.ps) (x y : resT pass-kinds.r κs .Denot)

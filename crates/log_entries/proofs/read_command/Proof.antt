@@ -2,7 +2,7 @@
 use Rattle.log_entries.specs.Reading.{command-read}
 use mathlib.Core.Path.{sym, ap, _∙_}
 use native.Mathlib.Omega.{arith}
-use Rattle.log_entries.specs.Entry.{commandOf}
+use Rattle.log_entries.specs.Entry.{readCommand}
 use Rattle.log_entries.specs.Left.{left-none, left-only}
 use Rattle.log_entries.specs.Reading.{command-over}
 use borrow.Author.Needs.{needs}
@@ -13,8 +13,8 @@ no-entry-requires : tie.Need-no-entry-requires
 no-entry-requires c κs = search needs
 
 returns : tie.Need-returns
-unfolding commandOf
-returns c = c .no-entry .ensures ∙ sym (ap commandOf (left-none _ _ (c .before .if1 .taken)))
+unfolding readCommand
+returns c = c .no-entry .ensures ∙ sym (ap readCommand (left-none _ _ (c .before .if1 .taken)))
 
 field-requires : tie.Need-field-requires
 field-requires c κs = search needs
@@ -39,16 +39,16 @@ no-entry-requires-3 : tie.Need-no-entry-requires-3
 no-entry-requires-3 c κs = search needs
 
 returns-3 : tie.Need-returns-3
-unfolding commandOf
+unfolding readCommand
 returns-3 c =
-    c .no-entry3 .ensures ∙ sym (ap commandOf (left-only _ _ _ (c .before .before .before .before .before .field .ensures .0) (omega arith) (omega arith)) ∙ rw (sym (c .before .before .before .read-number .ensures) ∙ c .before .enum-told .given .1))
+    c .no-entry3 .ensures ∙ sym (ap readCommand (left-only _ _ _ (c .before .before .before .before .before .field .ensures .0) (omega arith) (omega arith)) ∙ rw (sym (c .before .before .before .read-number .ensures) ∙ c .before .enum-told .given .1))
 
 no-sample-requires : tie.Need-no-sample-requires
 no-sample-requires c κs = search needs
 
 returns-4 : tie.Need-returns-4
 returns-4 c =
-    sym (ap commandOf (left-only _ _ _ (c .before .before .before .before .before .before .field .ensures .0) (omega arith) (omega arith)) ∙ command-read _ _ (sym (c .before .before .before .before .read-number .ensures) ∙ c .before .before .c .given .1) ∙ sym cc)
+    sym (ap readCommand (left-only _ _ _ (c .before .before .before .before .before .before .field .ensures .0) (omega arith) (omega arith)) ∙ command-read _ _ (sym (c .before .before .before .before .read-number .ensures) ∙ c .before .before .c .given .1) ∙ sym cc)
 
 pub read-command-spec : {M : Type 1} → statement M
 read-command-spec =

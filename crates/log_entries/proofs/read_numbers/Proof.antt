@@ -10,7 +10,7 @@ use Rattle.text_numbers.specs.declared.Signed.{Signed}
 use Rattle.log_entries.proofs.Current.{current-same}
 use Rattle.log_entries.specs.Entry.{offer, ifSigned}
 use Rattle.log_entries.specs.Left.{left, left-none, left-next}
-use Rattle.log_entries.specs.InTurn.{cellsOf, startOf, behind, NoCell, behind-over, behind-none, behind-next, behind-few, behind-all}
+use Rattle.log_entries.specs.InTurn.{cellsOf, readNumbers, behind, NoCell, behind-over, behind-none, behind-next, behind-few, behind-all}
 use borrow.Author.Needs.{needs}
 use native.Mathlib.Omega.{arith}
 use Rattle.log_entries.proofs.read_numbers.Statement.{statement}
@@ -19,7 +19,7 @@ use Rattle.log_entries.proofs.read_numbers.Tie as tie
 abbrev Inv-loop : tie.InvT-loop
 Inv-loop line from below numbers₀ count₀ at₀ numbers count at =
     (count ≤ 13) × (at ≤ length line + 1) × (length numbers ≡ 13) × NoCell count numbers
-    × (behind below count numbers (left line at) ≡ startOf below (left line from))
+    × (behind below count numbers (left line at) ≡ readNumbers below (left line from))
 
 abbrev μ-loop : tie.MeasureT-loop
 μ-loop line from below numbers₀ count₀ at₀ numbers count at = length line + 1 - at

@@ -1,7 +1,7 @@
 -- `pack_refusals::cells_fit` meets its contract. The loop's invariant: `ok` says whether the first `i` cells fit. Assumes nothing.
 use Prim.Native.Nat.{_-_, _≤_}
 use mathlib.Core.Path.{_≡_, refl, ap, _∙_}
-use Rattle.units.specs.Cells.{looked-most}
+use Rattle.units.specs.Cells.{ten-most}
 use Rattle.pack_refusals.specs.SampleLaws.{fits-next}
 use Rattle.pack_refusals.specs.Samples.{cellsFit}
 use borrow.Author.Needs.{needs}
@@ -15,12 +15,12 @@ Inv-loop count cells n ok₀ i₀ ok i = (i ≤ n) × (n ≤ 10) × (ok ≡ cell
 abbrev μ-loop : tie.MeasureT-loop
 μ-loop count cells n ok₀ i₀ ok i = n - i
 
-looked-at-requires : tie.Need-looked-at-requires Inv-loop μ-loop
-looked-at-requires c κs = search needs
+ten-at-most-requires : tie.Need-ten-at-most-requires Inv-loop μ-loop
+ten-at-most-requires c κs = search needs
 
 loop-holds : tie.Need-loop-holds Inv-loop μ-loop
 unfolding cellsFit
-loop-holds c = (omega arith, rw (c .looked-at .ensures) (looked-most (c .before .args .count)), refl)
+loop-holds c = (omega arith, rw (c .ten-at-most .ensures) (ten-most (c .before .args .count)), refl)
 
 mul-v : tie.Need-mul-v Inv-loop μ-loop
 mul-v c = search needs
@@ -42,8 +42,8 @@ loop-again c = (omega arith, c .before .before .before .loop .inv .1, fits-next 
 
 returns : tie.Need-returns Inv-loop μ-loop
 returns c =
-    let e : c .before .loop .i ≡ c .before .before .looked-at .result = omega arith in
-    c .before .loop .inv .2 ∙ ap (cellsFit _) (e ∙ c .before .before .looked-at .ensures)
+    let e : c .before .loop .i ≡ c .before .before .ten-at-most .result = omega arith in
+    c .before .loop .inv .2 ∙ ap (cellsFit _) (e ∙ c .before .before .ten-at-most .ensures)
 
 pub cells-fit-spec : {M : Type 1} → statement M
 cells-fit-spec =
@@ -51,7 +51,7 @@ cells-fit-spec =
     (tie.spec
     Inv-loop
     μ-loop
-    looked-at-requires
+    ten-at-most-requires
     loop-holds
     mul-v
     array-copy-out-v

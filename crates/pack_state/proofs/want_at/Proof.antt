@@ -1,7 +1,7 @@
 -- `pack_state::want_at` meets its contract. Assumes nothing.
 use mir.Syntax.{w16}
 use mir.Facts.{toZ-ofZ}
-use Rattle.pack_state.specs.State.{wantWith}
+use Rattle.pack_state.specs.State.{wantAt}
 use borrow.Author.Needs.{needs}
 use Rattle.pack_state.proofs.want_at.Statement.{statement}
 use Rattle.pack_state.proofs.want_at.Tie as tie
@@ -16,7 +16,7 @@ wanting-word-requires : tie.Need-wanting-word-requires
 wanting-word-requires c κs = search needs
 
 returns : tie.Need-returns
-unfolding wantWith
+unfolding wantAt
 returns c = rw (
   c .wanting-word .ensures,
   c .before .before .any-raised .ensures,

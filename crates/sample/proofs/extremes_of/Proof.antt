@@ -1,7 +1,7 @@
 -- `sample::extremes_of` meets its contract: after i cells, e are the extremes of the first i. Assumes nothing.
 use mathlib.Core.Path.{_≡_, sym, ap, _∙_}
 use Prim.Native.Nat.{_-_, _≤_}
-use Rattle.units.specs.Cells.{looked-most}
+use Rattle.units.specs.Cells.{ten-most}
 use Rattle.sample.specs.Cells.{extremesOf, extremesTo, extremes-none, extremes-first, extremes-next}
 use borrow.Author.Needs.{needs}
 use native.Mathlib.Omega.{arith}
@@ -14,17 +14,17 @@ Inv-loop count cells n e₀ i₀ e i = (1 ≤ i) × (i ≤ n) × (n ≤ 10) × (
 abbrev μ-loop : tie.MeasureT-loop
 μ-loop count cells n e₀ i₀ e i = n - i
 
-looked-at-requires : tie.Need-looked-at-requires Inv-loop μ-loop
-looked-at-requires c κs = search needs
+ten-at-most-requires : tie.Need-ten-at-most-requires Inv-loop μ-loop
+ten-at-most-requires c κs = search needs
 
 returns : tie.Need-returns Inv-loop μ-loop
-returns c = extremes-none _ _ (sym (c .before .looked-at .ensures) ∙ c .if1 .taken)
+returns c = extremes-none _ _ (sym (c .before .ten-at-most .ensures) ∙ c .if1 .taken)
 
 array-copy-out-first : tie.Need-array-copy-out-first Inv-loop μ-loop
 array-copy-out-first c = search needs
 
 loop-holds : tie.Need-loop-holds Inv-loop μ-loop
-loop-holds c = (omega arith, omega arith, rw (c .before .before .looked-at .ensures) (looked-most (c .before .before .before .args .count)), extremes-first _)
+loop-holds c = (omega arith, omega arith, rw (c .before .before .ten-at-most .ensures) (ten-most (c .before .before .before .args .count)), extremes-first _)
 
 mul-cell : tie.Need-mul-cell Inv-loop μ-loop
 mul-cell c = search needs
@@ -47,7 +47,7 @@ loop-again c = (omega arith, omega arith, omega arith, c .widened .ensures ∙ e
 returns-2 : tie.Need-returns-2 Inv-loop μ-loop
 unfolding extremesOf
 returns-2 c =
-    let looked = c .before .before .before .before .looked-at in
+    let looked = c .before .before .before .before .ten-at-most in
     let k : c .before .loop .i ≡ looked .result = omega arith in
     c .before .loop .inv .3 ∙ ap (extremesTo (c .before .before .before .before .before .args .t1)) (k ∙ looked .ensures)
 
@@ -57,7 +57,7 @@ extremes-of-spec =
     (tie.spec
     Inv-loop
     μ-loop
-    looked-at-requires
+    ten-at-most-requires
     returns
     array-copy-out-first
     loop-holds

@@ -4,7 +4,7 @@ use mathlib.Core.List.{List}
 use Prim.Native.Nat.{ℕ, _+_}
 use lib.ListN.{length}
 use Rattle.text_fields.specs.Fields.{fieldAt}
-use Rattle.text_numbers.specs.Numbers.{numberOf}
+use Rattle.text_numbers.specs.Numbers.{readNumber}
 use Rattle.text_number_at.specs.NumberAt.{withEnd}
 use Rattle.text_numbers.specs.declared.Number.{Number}
 use Rattle.text_numbers.specs.declared.Number.the-variants.{Value}
@@ -27,7 +27,7 @@ enum-told c = search needs
 returns : tie.Need-returns
 returns c = let a = c .before .before .before .before .before .args in
     ap (λ (n : Number). withEnd n (a .from + length (fieldAt (a .line .now) (a .from))))
-    (sym (c .enum-told .given .1) ∙ c .before .before .read-number .ensures ∙ ap numberOf (c .before .before .before .field .ensures .0))
+    (sym (c .enum-told .given .1) ∙ c .before .before .read-number .ensures ∙ ap readNumber (c .before .before .before .field .ensures .0))
 
 add-t7 : tie.Need-add-t7
 add-t7 c = search needs
@@ -37,7 +37,7 @@ returns-2 c = let a = c .before .before .before .before .before .before .args in
     let f = c .before .before .before .before .field .ensures .0 in
     ap (λ (l : List ℕ). withEnd (Value (c .before .n .given .0 .0)) (a .from + length l)) f
     ∙ ap (λ (n : Number). withEnd n (a .from + length (fieldAt (a .line .now) (a .from))))
-    (sym (c .before .n .given .1) ∙ c .before .before .before .read-number .ensures ∙ ap numberOf f)
+    (sym (c .before .n .given .1) ∙ c .before .before .before .read-number .ensures ∙ ap readNumber f)
 
 pub number-slowly-spec : {M : Type 1} → statement M
 number-slowly-spec =

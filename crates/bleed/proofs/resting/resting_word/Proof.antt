@@ -8,14 +8,14 @@ use lib.Dec.{ltb}
 use borrow.Author.Needs.{needs}
 use borrow.Author.Tests.{eq-eqb, ne-eqb}
 use Rattle.laws.specs.Words.{bitsOf, bits-none, bits-next, bits-within}
-use Rattle.bleed_wants.specs.Word.{wordTo}
-use Rattle.bleed.specs.Resting.Steps.{rested, restingWord}
-use Rattle.bleed.specs.Resting.StepLaws.{rested-at}
+use Rattle.bleed_wants.specs.Word.{cellsPassing}
+use Rattle.bleed.specs.Resting.Steps.{runReached, restingWord}
+use Rattle.bleed.specs.Resting.StepLaws.{run-reached-at}
 use Rattle.bleed.proofs.resting.resting_word.Statement.{statement}
 use Rattle.bleed.proofs.resting.resting_word.Tie as tie
 
 abbrev Inv-loop : tie.InvT-loop
-Inv-loop n limit bled runs word₀ i₀ word i = (i ≤ 10) × (word ≡ bitsOf (λ j. ltb j n && rested limit runs (suc j)) i)
+Inv-loop n limit bled runs word₀ i₀ word i = (i ≤ 10) × (word ≡ bitsOf (λ j. ltb j n && runReached limit runs (suc j)) i)
 
 abbrev μ-loop : tie.MeasureT-loop
 μ-loop n limit bled runs word₀ i₀ word i = 10 - i
@@ -50,11 +50,11 @@ loop-again c =
     let a = c .before .before .before .before .before .args in (
       omega arith,
       bits-next _ _ _ _ _ (c .before .before .before .loop .inv .1)
-          (c .before .rests-one .ensures ∙ rested-at (a .n) (a .limit) _ (c .before .before .before .loop .i)) (c .with-bit-if .ensures),
+          (c .before .rests-one .ensures ∙ run-reached-at (a .n) (a .limit) _ (c .before .before .before .loop .i)) (c .with-bit-if .ensures),
     )
 
 returns-2 : tie.Need-returns-2 Inv-loop μ-loop
-unfolding restingWord wordTo
+unfolding restingWord cellsPassing
 returns-2 c =
     let e : c .before .loop .i ≡ 10 = omega arith in
     rw (ne-eqb _ _ (c .before .before .if1 .left)) ((rw e at (c .before .loop .inv .1)) ∙ bits-within 10 _ _)

@@ -1,6 +1,6 @@
 -- `bus::answer_to` meets its contract. Assumes nothing.
 use borrow.Author.Tests.{eq-eqb, ne-eqb}
-use Rattle.bus.specs.Replies.{answerTo, repliedFor, replyRefusals, answer-given}
+use Rattle.bus.specs.Replies.{answerTo, answerFor, replyRefusals, answer-given}
 use borrow.Author.Needs.{needs}
 use Rattle.bus.proofs.answer.answer_to.Statement.{statement}
 use Rattle.bus.proofs.answer.answer_to.Tie as tie
@@ -12,7 +12,7 @@ not-in-table-requires : tie.Need-not-in-table-requires
 not-in-table-requires c κs = search needs
 
 returns : tie.Need-returns
-unfolding answerTo repliedFor replyRefusals
+unfolding answerTo answerFor replyRefusals
 returns c =
     let a = c .before .before .before .before .args in
     answer-given (a .p) (a .command) (a .room) _
@@ -26,7 +26,7 @@ cell-above-requires : tie.Need-cell-above-requires
 cell-above-requires c κs = search needs
 
 returns-2 : tie.Need-returns-2
-unfolding answerTo repliedFor replyRefusals
+unfolding answerTo answerFor replyRefusals
 returns-2 c =
     let a = c .before .before .before .before .before .before .args in
     answer-given (a .p) (a .command) (a .room) _
@@ -39,7 +39,7 @@ returns-2 c =
     ))
 
 returns-3 : tie.Need-returns-3
-unfolding answerTo repliedFor replyRefusals
+unfolding answerTo answerFor replyRefusals
 returns-3 c =
     let a = c .before .before .before .before .before .before .before .args in
     answer-given (a .p) (a .command) (a .room) _
@@ -53,7 +53,7 @@ returns-3 c =
     ))
 
 returns-4 : tie.Need-returns-4
-unfolding answerTo repliedFor replyRefusals
+unfolding answerTo answerFor replyRefusals
 returns-4 c =
     let a = c .before .before .before .before .before .before .before .before .args in
     answer-given (a .p) (a .command) (a .room) _
@@ -68,7 +68,7 @@ returns-4 c =
     ))
 
 returns-5 : tie.Need-returns-5
-unfolding answerTo repliedFor replyRefusals
+unfolding answerTo answerFor replyRefusals
 returns-5 c =
     let a = c .before .before .before .before .before .before .before .before .before .args in
     answer-given (a .p) (a .command) (a .room) _
@@ -84,7 +84,7 @@ returns-5 c =
     ))
 
 returns-6 : tie.Need-returns-6
-unfolding answerTo repliedFor replyRefusals
+unfolding answerTo answerFor replyRefusals
 returns-6 c =
     let a = c .before .before .before .before .before .before .before .before .before .args in
     answer-given (a .p) (a .command) (a .room) _

@@ -3,14 +3,14 @@ use mathlib.Core.Path.{_≡_, refl}
 use Prim.Native.Nat.{_-_, _≤_}
 use Rattle.laws.specs.Each.{eachTo, each-next}
 use Rattle.protections.specs.Table.{protections}
-use Rattle.guard.specs.Steps.{noProtection, stepWith, step-all-is}
+use Rattle.guard.specs.Steps.{noProtection, stepAt, step-all-is}
 use borrow.Author.Needs.{needs}
 use native.Mathlib.Omega.{arith}
 use Rattle.guard.proofs.all.step_all.Statement.{statement}
 use Rattle.guard.proofs.all.step_all.Tie as tie
 
 abbrev Inv-loop : tie.InvT-loop
-Inv-loop s e out₀ i₀ out i = (i ≤ protections) × (out ≡ eachTo noProtection (stepWith e s) i out₀)
+Inv-loop s e out₀ i₀ out i = (i ≤ protections) × (out ≡ eachTo noProtection (stepAt e s) i out₀)
 
 abbrev μ-loop : tie.MeasureT-loop
 μ-loop s e out₀ i₀ out i = protections - i
@@ -44,7 +44,7 @@ loop-less : tie.Need-loop-less Inv-loop μ-loop
 loop-less c = omega arith
 
 loop-again : tie.Need-loop-again Inv-loop μ-loop
-loop-again c = (omega arith, each-next noProtection (stepWith _ _) _ _ _ _ (c .before .before .before .loop .inv .1) (c .step-at .ensures))
+loop-again c = (omega arith, each-next noProtection (stepAt _ _) _ _ _ _ (c .before .before .before .loop .inv .1) (c .step-at .ensures))
 
 returns : tie.Need-returns Inv-loop μ-loop
 returns c = step-all-is _ _ _ _ _ (omega arith) (c .before .loop .inv .1)

@@ -1,5 +1,5 @@
 -- `guard::all::step_at` meets its contract. Assumes nothing.
-use Rattle.guard.specs.Steps.{stepWith}
+use Rattle.guard.specs.Steps.{stepAt}
 use borrow.Author.Needs.{needs}
 use Rattle.guard.proofs.all.step_at.Statement.{statement}
 use Rattle.guard.proofs.all.step_at.Tie as tie
@@ -14,7 +14,7 @@ step-one-requires : tie.Need-step-one-requires
 step-one-requires c κs = search needs
 
 returns : tie.Need-returns
-unfolding stepWith
+unfolding stepAt
 returns c = rw (c .step-one .ensures, c .before .measured .ensures, c .before .before .row-of .ensures)
 
 pub step-at-spec : {M : Type 1} → statement M
