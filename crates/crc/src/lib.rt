@@ -1,28 +1,24 @@
-// The check byte: the SMBus CRC-8 of a run of bytes, worked bit by bit.
+// The check byte: the SMBus CRC-8 of a run of bytes, worked four bits at a time.
 ghost use mathlib.Core.Path.{_≡_};
-ghost use Rattle.crc.specs.CheckByte.{timesX, withByte, checkByte};
+ghost use Rattle.crc.specs.CheckByte.{timesXs, withByte, checkByte};
 
-// The remainder times x: the top bit is shifted out, and where it was set x^2 + x + 1 takes its place.
-fn times_x(c: u8) -> u8
-    ensures { λ r. ⌜ r ≡ timesX c ⌝ }
+// What half a byte, shifted out at the top, leaves: entry h is the remainder of h times x^8.
+const HALF: [u8; 16] = [0, 7, 14, 9, 28, 27, 18, 21, 56, 63, 54, 49, 36, 35, 42, 45];
+
+// The remainder times x^4: the upper four bits are shifted out, and what they leave comes in.
+fn half(c: u8) -> u8
+    ensures { λ r. ⌜ r ≡ timesXs 4 c ⌝ }
 {
-    if c < 128 {
-        return c * 2;
-    }
-    ((c - 128) * 2) ^ 7
+    let h = (c / 16) as usize;
+    HALF[h] ^ (c % 16 * 16)
 }
 
-// The remainder after one more byte: its eight bits one after the other, the most significant first.
+// The remainder after one more byte: its upper half, then its lower half.
 fn with_byte(c: u8, b: u8) -> u8
     ensures { λ r. ⌜ r ≡ withByte c b ⌝ }
 {
-    let mut rest = c ^ b;
-    let mut bits: u8 = 0;
-    while bits < 8 {
-        rest = times_x(rest);
-        bits += 1;
-    }
-    rest
+    let upper = half(c ^ b);
+    half(upper)
 }
 
 // The check byte of a run of bytes of any length; of none it is 0.
