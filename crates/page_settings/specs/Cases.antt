@@ -1,4 +1,4 @@
--- What two pages say, and document 01's degrees, computed from the definitions.
+-- What two pages say, and document 02's degrees, computed from the definitions.
 -- Assumes nothing.
 use mathlib.Core.Path.{_≡_, refl}
 use mathlib.Core.List.{List, [], _∷_}
@@ -11,6 +11,7 @@ use Rattle.units.specs.Signed.{signedOf}
 use Rattle.crc.specs.CheckByte.{timesX, timesXs, withByte, remainder, checkByte}
 use Rattle.protections.specs.Table.{rowAt, table}
 use Rattle.protections.specs.declared.Limits.{Limits}
+use Rattle.protections.specs.declared.Direction.the-variants.{Above, Below}
 use Rattle.protections.specs.declared.Quantity.the-variants.{HighestCell, LowestCell, Current, Temperature1, Temperature2}
 use Rattle.page_words.specs.Ranges.{wordAt, within, degreesFit, levelFits, levelOf}
 use Rattle.page_faults.specs.Kinds.{kindOf}
@@ -26,17 +27,32 @@ use Rattle.page_settings.specs.Settings.{inDegrees, sampleLevel, limitsF
 
 abbrev levels : List ℤ
 levels =
-    sampleLevel Temperature1 25
-    ∷ sampleLevel Temperature2 (minusWord 40)
-    ∷ sampleLevel Temperature1 120
-    ∷ sampleLevel HighestCell 4250
-    ∷ sampleLevel LowestCell 2600
-    ∷ sampleLevel Current (minusWord 32768)
-    ∷ sampleLevel Current (minusWord 1)
+    sampleLevel Above Temperature1 25
+    ∷ sampleLevel Below Temperature1 25
+    ∷ sampleLevel Above Temperature2 (minusWord 40)
+    ∷ sampleLevel Below Temperature2 (minusWord 40)
+    ∷ sampleLevel Above Temperature1 120
+    ∷ sampleLevel Below Temperature1 120
+    ∷ sampleLevel Above HighestCell 4250
+    ∷ sampleLevel Below LowestCell 2600
+    ∷ sampleLevel Below Current (minusWord 32768)
+    ∷ sampleLevel Above Current (minusWord 1)
     ∷ []
 
--- 25 °C is 2980, -40 °C is 2330, 120 °C is 3930; cells are mV as they stand, currents signed.
-levels-are : levels ≡ pos 2980 ∷ pos 2330 ∷ pos 3930 ∷ pos 4250 ∷ pos 2600 ∷ negsuc 32767 ∷ negsuc 0 ∷ []
+-- 25 °C is reached at 2982 from below and at 2981 from above, -40 °C at 2332 and 2331, 120 °C at 3932 and 3931; cells are mV as they
+-- stand, currents signed.
+levels-are : levels
+    ≡ pos 2982
+    ∷ pos 2981
+    ∷ pos 2332
+    ∷ pos 2331
+    ∷ pos 3932
+    ∷ pos 3931
+    ∷ pos 4250
+    ∷ pos 2600
+    ∷ negsuc 32767
+    ∷ negsuc 0
+    ∷ []
 unfolding sampleLevel inDegrees levelOf signedOf
 levels-are = refl
 
@@ -68,9 +84,9 @@ worked =
           ∷ limits (pos 3000) (pos 2500) 2 2 1
           ∷ limits (negsuc 4999) (negsuc 3999) 2 2 2
           ∷ limits (negsuc 19999) (negsuc 99) 2 2 3
-          ∷ limits (pos 3180) (pos 3130) 2 2 1
-          ∷ limits (pos 3330) (pos 3280) 2 2 2
-          ∷ limits (pos 3530) (pos 3430) 2 2 3
+          ∷ limits (pos 3182) (pos 3131) 2 2 1
+          ∷ limits (pos 3332) (pos 3281) 2 2 2
+          ∷ limits (pos 3532) (pos 3431) 2 2 3
           ∷ [];
     }
 
@@ -101,9 +117,9 @@ unlike =
           ∷ limits (pos 2000) (negsuc 299) 8 9 2
           ∷ limits (negsuc 3999) (negsuc 3499) 10 11 3
           ∷ limits (negsuc 32767) (pos 5) 12 13 0
-          ∷ limits (pos 3230) (pos 2330) 14 15 1
-          ∷ limits (pos 3380) (pos 2730) 16 17 2
-          ∷ limits (pos 3930) (pos 2680) 240 239 3
+          ∷ limits (pos 3232) (pos 2331) 14 15 1
+          ∷ limits (pos 3382) (pos 2731) 16 17 2
+          ∷ limits (pos 3932) (pos 2681) 240 239 3
           ∷ [];
     }
 

@@ -1,27 +1,24 @@
 -- What the settings of an accepted page are good for: every fact that later proofs take from the page, in the units of the samples.
 -- Assumes nothing.
-use mathlib.Core.Path.{_≡_, refl, sym, ap, _∙_}
-use mathlib.Core.Bool.{true, true≢false}
+use mathlib.Core.Path.{_≡_, refl, ap, _∙_}
+use mathlib.Core.Bool.{true}
 use mathlib.Core.List.{List}
-use Prim.Native.Nat.{ℕ, suc, _+_, _-_, _*_, _<_, _≤_}
+use Prim.Native.Nat.{ℕ, _+_, _<_, _≤_}
 use native.Mathlib.Omega.{arith}
-use borrow.Author.Tests.{lt-ltb, le-ltb, ltb-true, leb-true}
+use borrow.Author.Tests.{lt-ltb}
 use lib.ListN.{length, set, replicate, length-replicate}
-use lib.IntN.{ℤ, pos, negsuc, _+ℤ_, _*ℤ_}
-use lib.Signed.{leZ, ltZ}
-use Rattle.laws.specs.Tests.{and-left}
+use lib.IntN.{ℤ, pos}
 use Rattle.laws.specs.Each.{eachTo, each-next}
 use Rattle.laws.specs.Numbered.{listOf-length, listOf-at, each-listOf}
 use Rattle.units.specs.Signed.{signedOf}
 use Rattle.protections.specs.Table.{rowAt, protections}
-use Rattle.protections.specs.Direction.{inOrder}
+use Rattle.protections.specs.Direction.{inOrder, back}
 use Rattle.protections.specs.Limits.{noLimits, limitsAt, AllGood}
 use Rattle.protections.specs.declared.Limits.{Limits}
 use Rattle.protections.specs.declared.Direction.{Direction}
-use Rattle.protections.specs.declared.Direction.the-variants.{Above, Below}
 use Rattle.protections.specs.declared.Quantity.{Quantity}
 use Rattle.protections.specs.declared.Quantity.the-variants.{HighestCell, LowestCell, Current, Temperature1, Temperature2}
-use Rattle.page_words.specs.Ranges.{wordAt, degreesFit, levelFits, levelOf}
+use Rattle.page_words.specs.Ranges.{wordAt, levelFits, levelOf}
 use Rattle.page_faults.specs.Kinds.{frontKind, tripWord, Inside}
 use Rattle.page_judge.specs.Page.{refusals, judged}
 use Rattle.page_judge.specs.Walk.{judged-answer}
@@ -30,6 +27,7 @@ use Rattle.refusals.specs.Refusals.{given}
 use Rattle.refusals.specs.Answers.{answerOf}
 use Rattle.refusals.specs.declared.Verdict.{Verdict}
 use Rattle.refusals.specs.declared.Verdict.the-variants.{Accepted, Refused}
+use Rattle.page_settings.specs.Degrees.{tenths-order}
 use Rattle.page_settings.specs.declared.Loaded.{Loaded}
 use Rattle.page_settings.specs.declared.Settings.{Settings}
 use Rattle.page_settings.specs.Settings.{inDegrees, sampleLevel, limitsFrom, limitsOf, rulesOf, settingsOf, loadedWith, loadedOf}
@@ -84,42 +82,17 @@ pub limits-at : (b : List ℕ) (p : ℕ) → p < protections → limitsAt (limit
 unfolding limitsOf
 limits-at b p h = listOf-at (limitsFrom b) protections p noLimits h
 
--- ---- degrees keep their order as tenths
-
--- Ten times a number of degrees, and an offset o that keeps it above 0.
-module _ (o : ℕ) (g : 400 ≤ o) where
-  cold : (a : ℕ) → a ≤ 39 → pos 10 *ℤ negsuc a +ℤ pos o ≡ pos (o - (10 * a + 10))
-  cold a h =
-      let e : 10 * suc a ≡ suc (10 * a + 9) = omega arith in
-      rw (e, le-ltb o (suc (10 * a + 9)) (omega arith)) (ap pos (omega arith))
-
-  tenths-less : (a b : ℤ) → degreesFit a ≡ true → degreesFit b ≡ true → ltZ a b ≡ true
-      → ltZ (pos 10 *ℤ a +ℤ pos o) (pos 10 *ℤ b +ℤ pos o) ≡ true
-  unfolding degreesFit
-  tenths-less (pos a) (pos b) p q h = lt-ltb (10 * a + o) (10 * b + o) (let k = ltb-true a b h in omega arith)
-  tenths-less (pos a) (negsuc b) p q h = absurd (true≢false (sym h))
-  tenths-less (negsuc a) (pos b) p q h =
-      let u = leb-true a 39 (and-left (leZ (negsuc 39) (negsuc a)) (leZ (negsuc a) (pos 120)) p) in
-      rw (cold a u) (lt-ltb (o - (10 * a + 10)) (10 * b + o) (omega arith))
-  tenths-less (negsuc a) (negsuc b) p q h =
-      let u = leb-true a 39 (and-left (leZ (negsuc 39) (negsuc a)) (leZ (negsuc a) (pos 120)) p) in
-      let v = leb-true b 39 (and-left (leZ (negsuc 39) (negsuc b)) (leZ (negsuc b) (pos 120)) q) in
-      rw (cold a u, cold b v) (lt-ltb (o - (10 * a + 10)) (o - (10 * b + 10)) (let k = ltb-true b a h in omega arith))
-
-  tenths-order : (d : Direction) (a b : ℤ) → degreesFit a ≡ true → degreesFit b ≡ true → inOrder d a b ≡ true
-      → inOrder d (pos 10 *ℤ a +ℤ pos o) (pos 10 *ℤ b +ℤ pos o) ≡ true
-  tenths-order Above a b p q h = tenths-less b a q p h
-  tenths-order Below a b p q h = tenths-less a b p q h
+-- ---- levels keep their order
 
 -- Trip and release words in order stand for levels in order.
 level-order : (q : Quantity) (d : Direction) (x y : ℕ) → levelFits q x ≡ true → levelFits q y ≡ true
-    → inOrder d (levelOf q x) (levelOf q y) ≡ true → inOrder d (sampleLevel q x) (sampleLevel q y) ≡ true
+    → inOrder d (levelOf q x) (levelOf q y) ≡ true → inOrder d (sampleLevel d q x) (sampleLevel (back d) q y) ≡ true
 unfolding levelFits levelOf inDegrees sampleLevel
 level-order HighestCell d x y a b h = h
 level-order LowestCell d x y a b h = h
 level-order Current d x y a b h = h
-level-order Temperature1 d x y a b h = tenths-order _ (omega arith) d (signedOf x) (signedOf y) a b h
-level-order Temperature2 d x y a b h = tenths-order _ (omega arith) d (signedOf x) (signedOf y) a b h
+level-order Temperature1 d x y a b h = tenths-order d (signedOf x) (signedOf y) a b h
+level-order Temperature2 d x y a b h = tenths-order d (signedOf x) (signedOf y) a b h
 
 range-signed : (i x : ℕ) → InRange i x → x ≤ 32767 → InRangeSigned i (signedOf x)
 unfolding signedOf

@@ -10,7 +10,10 @@ use Rattle.units.specs.Levels.{level}
 use Rattle.units.specs.Signed.{signedOf}
 use Rattle.protections.specs.Limits.{noLimits}
 use Rattle.protections.specs.Table.{rowAt, protections}
+use Rattle.protections.specs.Direction.{back}
 use Rattle.protections.specs.declared.Limits.{Limits}
+use Rattle.protections.specs.declared.Direction.{Direction}
+use Rattle.protections.specs.declared.Direction.the-variants.{Above, Below}
 use Rattle.protections.specs.declared.Quantity.{Quantity}
 use Rattle.protections.specs.declared.Quantity.the-variants.{HighestCell, LowestCell, Current, Temperature1, Temperature2}
 use Rattle.page_words.specs.Ranges.{wordAt, levelOf}
@@ -30,17 +33,27 @@ inDegrees Current = false
 inDegrees Temperature1 = true
 inDegrees Temperature2 = true
 
--- "C degrees stand for 10 × C + 2730 tenths": the trip or release level that the word x stands for, in the sample's unit.
-unfoldable pub sampleLevel : Quantity → ℕ → ℤ
-sampleLevel q x = cond (inDegrees q) (pos 10 *ℤ levelOf q x +ℤ pos 2730) (levelOf q x)
+-- "C degrees now stand for exactly 10 × C + 2731.5 tenths": twice that, so that it is whole.
+abbrev pub twiceTenths : ℤ → ℤ
+twiceTenths c = pos 20 *ℤ c +ℤ pos 5463
 
--- What the page b says of protection p: "trip, release, N, M, switch mask".
+-- "An upper trip at C needs a sample of 10 × C + 2732 or more, and its release one of 10 × C + 2731 or less; a lower limit is the mirror":
+-- what is added where a level is reached from below, at or above it, and where from above.
+abbrev pub tenthsAtZero : Direction → ℕ
+tenthsAtZero Above = 2732
+tenthsAtZero Below = 2731
+
+-- The level that the word x stands for, in the sample's unit, where it is reached in this direction.
+unfoldable pub sampleLevel : Direction → Quantity → ℕ → ℤ
+sampleLevel d q x = cond (inDegrees q) (pos 10 *ℤ levelOf q x +ℤ pos (tenthsAtZero d)) (levelOf q x)
+
+-- What the page b says of protection p: "trip, release, N, M, switch mask". The release level is reached the other way.
 unfoldable pub limitsFrom : List ℕ → ℕ → Limits
 limitsFrom b p =
     let at = tripWord p in
     record {
-      trip = level (sampleLevel (rowAt p .quantity) (wordAt b at));
-      release = level (sampleLevel (rowAt p .quantity) (wordAt b (at + 1)));
+      trip = level (sampleLevel (rowAt p .direction) (rowAt p .quantity) (wordAt b at));
+      release = level (sampleLevel (back (rowAt p .direction)) (rowAt p .quantity) (wordAt b (at + 1)));
       n = wordAt b (at + 2);
       m = wordAt b (at + 3);
       mask = wordAt b (at + 4);

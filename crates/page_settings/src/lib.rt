@@ -13,9 +13,11 @@ ghost use Rattle.page_settings.specs.Settings.{inDegrees, sampleLevel, l
 use page_faults::trip_word;
 use page_words::level_of;
 use page_words::word_at;
+use protections::Direction;
 use protections::Limits;
 use protections::PROTECTIONS;
 use protections::Quantity;
+use protections::back_of;
 use protections::row_of;
 use refusals::Verdict;
 use units::Level;
@@ -61,14 +63,22 @@ fn in_degrees(quantity: Quantity) -> bool
     }
 }
 
-// The trip or release level that a word stands for, in the sample's unit.
-fn sample_level(quantity: Quantity, x: u16) -> Level
-    ensures { λ r. ⌜ r ≡ level (sampleLevel quantity x) ⌝ }
+// The level that a word stands for, in the sample's unit, where it is reached in this direction: degrees fall between two tenths.
+fn sample_level(direction: Direction, quantity: Quantity, x: u16) -> Level
+    ensures { λ r. ⌜ r ≡ level (sampleLevel direction quantity x) ⌝ }
 {
     let z = level_of(quantity, x);
     if in_degrees(quantity) {
-        let tenths = 10 * z.0 + 2730;
-        return Level(tenths);
+        match direction {
+            Direction::Above => {
+                let tenths = 10 * z.0 + 2732;
+                return Level(tenths);
+            }
+            Direction::Below => {
+                let tenths = 10 * z.0 + 2731;
+                return Level(tenths);
+            }
+        }
     }
     Level(z.0)
 }
@@ -88,9 +98,11 @@ fn limits_from(page: &[u8], p: ProtectionNo) -> Limits
 {
     let row = row_of(p);
     let quantity = row.quantity;
+    let direction = row.direction;
     let at = trip_word(p);
-    let trip = sample_level(quantity, word_at(page, at));
-    let release = sample_level(quantity, word_at(page, at + 1));
+    let trip = sample_level(direction, quantity, word_at(page, at));
+    let back = back_of(direction);
+    let release = sample_level(back, quantity, word_at(page, at + 1));
     let n = small(page, at + 2);
     let m = small(page, at + 3);
     let mask = small(page, at + 4);
