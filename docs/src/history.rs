@@ -240,21 +240,22 @@ impl Page {
     fn charging_current(&self) -> u16 {
         self.words[8]
     }
-    /// A trip or release word in the unit of the samples.
-    fn level(&self, p: usize, word: usize) -> i32 {
+    /// Twice the level that a trip or release word stands for, in the unit of the samples: twice,
+    /// so that it is whole.
+    fn twice_level(&self, p: usize, word: usize) -> i32 {
         let (quantity, _) = PROTECTIONS[p];
         let number = reading(quantity, self.words[word]);
         match quantity {
-            // "C degrees stand for 10 × C + 2730 tenths"
-            Temperature1 | Temperature2 => 10 * number + 2730,
-            _ => number,
+            // "C degrees now stand for exactly 10 × C + 2731.5 tenths" (document 02, request 02)
+            Temperature1 | Temperature2 => 20 * number + 5463,
+            _ => 2 * number,
         }
     }
-    fn trip(&self, p: usize) -> i32 {
-        self.level(p, first_word(p))
+    fn twice_trip(&self, p: usize) -> i32 {
+        self.twice_level(p, first_word(p))
     }
-    fn release(&self, p: usize) -> i32 {
-        self.level(p, first_word(p) + 1)
+    fn twice_release(&self, p: usize) -> i32 {
+        self.twice_level(p, first_word(p) + 1)
     }
     /// N of protection p.
     fn trip_samples(&self, p: usize) -> usize {
@@ -369,16 +370,16 @@ impl History {
     fn trips(&self, p: usize, sample: &Sample) -> bool {
         let (quantity, trips) = PROTECTIONS[p];
         match trips {
-            AtOrAbove => sample.quantity(quantity) >= self.page.trip(p),
-            AtOrBelow => sample.quantity(quantity) <= self.page.trip(p),
+            AtOrAbove => 2 * sample.quantity(quantity) >= self.page.twice_trip(p),
+            AtOrBelow => 2 * sample.quantity(quantity) <= self.page.twice_trip(p),
         }
     }
 
     fn releases(&self, p: usize, sample: &Sample) -> bool {
         let (quantity, trips) = PROTECTIONS[p];
         match trips {
-            AtOrAbove => sample.quantity(quantity) <= self.page.release(p),
-            AtOrBelow => sample.quantity(quantity) >= self.page.release(p),
+            AtOrAbove => 2 * sample.quantity(quantity) <= self.page.twice_release(p),
+            AtOrBelow => 2 * sample.quantity(quantity) >= self.page.twice_release(p),
         }
     }
 
@@ -1233,11 +1234,13 @@ impl Story {
         Story { page: Page { words: *words }, sample, hold: 0 }
     }
 
-    /// A level of one of these protections, or one beside it.
+    /// A level of one of these protections, or one beside it; of degrees the tenths just below the
+    /// level and just above it are among them.
     fn near_level(&self, dice: &mut Dice, protections: &[usize]) -> i64 {
         let p = dice.pick(protections);
-        let level = if dice.one_in(2) { self.page.trip(p) } else { self.page.release(p) };
-        i64::from(level) + dice.between(-1, 1)
+        let twice =
+            if dice.one_in(2) { self.page.twice_trip(p) } else { self.page.twice_release(p) };
+        i64::from(twice.div_euclid(2)) + dice.between(-1, 1)
     }
 
     fn some_current(&self, dice: &mut Dice) -> i16 {
@@ -1254,7 +1257,7 @@ impl Story {
     fn some_temperature(&self, dice: &mut Dice, protections: &[usize]) -> u16 {
         let value = match dice.below(8) {
             0..=4 => self.near_level(dice, protections),
-            5 | 6 => dice.pick(&[2980, 2979, 2981]),
+            5 | 6 => dice.pick(&[2980, 2981, 2982]),
             _ => dice.pick(&[2000, 2001, 4499, 4500]),
         };
         value.max(2000).min(4500) as u16
@@ -1886,9 +1889,31 @@ fn check_the_limits(checks: &mut Checks) {
         checks.that(&what, history.offer(first) == answer);
         checks.that(&what, history.offer(second) == answer);
     }
-    let page = page_with(2, &[(41, 25), (42, -40)]);
-    checks.that("25 degrees are 2980 tenths", page.trip(5) == 2980);
-    checks.that("-40 degrees are 2330 tenths", page.release(5) == 2330);
+}
+
+/// "an upper trip at C needs a sample of 10 × C + 2732 or more, and its release one of 10 × C + 2731
+/// or less"
+fn check_the_degrees(checks: &mut Checks) {
+    for (trip, release) in [(25, -40), (120, 25), (-39, -40)] {
+        for (p, second) in [(5, false), (6, false), (7, true)] {
+            let at = first_word(p);
+            let page = page_with(2, &[(at, trip), (at + 1, release), (at + 2, 1), (at + 3, 1)]);
+            let mut history = History::load(page);
+            let mut steps = vec![(10 * trip + 2731, false), (10 * trip + 2732, true)];
+            steps.extend([(10 * release + 2732, true), (10 * release + 2731, false)]);
+            for (tenths, raised) in steps {
+                let mut sample = sample_of(0, &[4000, 4000]);
+                if second {
+                    sample.temperature_2 = tenths as u16;
+                } else {
+                    sample.temperature_1 = tenths as u16;
+                }
+                let what = format!("protection {} at {} tenths", p, tenths);
+                let accepted = history.offer(sample).is_ok();
+                checks.that(&what, accepted && bit(history.raised_now(), p) == raised);
+            }
+        }
+    }
 }
 
 fn check_the_pages(checks: &mut Checks) {
@@ -2005,6 +2030,7 @@ fn selftest() -> bool {
     check_the_bleeding(&mut checks);
     check_the_words(&mut checks);
     check_the_limits(&mut checks);
+    check_the_degrees(&mut checks);
     check_the_pages(&mut checks);
     check_the_replay(&mut checks);
     check_the_lines(&mut checks);

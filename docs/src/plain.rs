@@ -71,11 +71,19 @@ fn level(quantity: usize, word: u16) -> i32 {
     }
 }
 
-/// A level as it is compared: in tenths of a kelvin, or negated, where the quantity is.
+/// A level as it is compared: negated where the quantity is.
 fn compared(quantity: usize, level: i32) -> i32 {
     match quantity {
         NEGATED_LOWEST_CELL | NEGATED_CURRENT => -level,
-        TEMPERATURE_1 | TEMPERATURE_2 => 10 * level + 2730,
+        _ => level,
+    }
+}
+
+/// A level in the unit of the samples. C degrees are 10 × C + 2731.5 tenths of a kelvin, so that a
+/// trip needs 10 × C + 2732 or more and a release 10 × C + 2731 or less.
+fn sampled(quantity: usize, level: i32, tenths_at_zero: i32) -> i32 {
+    match quantity {
+        TEMPERATURE_1 | TEMPERATURE_2 => 10 * level + tenths_at_zero,
         _ => level,
     }
 }
@@ -200,8 +208,10 @@ impl Pack {
         };
         for (p, &quantity) in QUANTITIES.iter().enumerate() {
             let first = 16 + 5 * p;
-            pack.trip[p] = compared(quantity, level(quantity, words[first]));
-            pack.release[p] = compared(quantity, level(quantity, words[first + 1]));
+            let trip = compared(quantity, level(quantity, words[first]));
+            let release = compared(quantity, level(quantity, words[first + 1]));
+            pack.trip[p] = sampled(quantity, trip, 2732);
+            pack.release[p] = sampled(quantity, release, 2731);
             pack.trip_count[p] = u32::from(words[first + 2]);
             pack.release_count[p] = u32::from(words[first + 3]);
             pack.mask[p] = u32::from(words[first + 4]);

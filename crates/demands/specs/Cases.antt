@@ -170,9 +170,9 @@ reporting =
           ∷ reports (pos 3000) (pos 2500)
           ∷ reports (belowZero 5000) (belowZero 4000)
           ∷ reports (belowZero 20000) (belowZero 100)
-          ∷ reports (pos 3180) (pos 3130)
-          ∷ reports (pos 3330) (pos 3280)
-          ∷ reports (pos 3530) (pos 3430)
+          ∷ reports (pos 3182) (pos 3131)
+          ∷ reports (pos 3332) (pos 3281)
+          ∷ reports (pos 3532) (pos 3431)
           ∷ [];
     }
 
@@ -185,13 +185,13 @@ modeCases =
     (answers (freshPack reporting)
     (command 3
     ∷ charged (4000 ∷ 4020 ∷ [])
-    ∷ sampled (pos 500) 3180 2980 (4000 ∷ 4020 ∷ [])
-    ∷ sampled (pos 500) 3330 2980 (4000 ∷ 4020 ∷ [])
-    ∷ sampled (pos 500) 3330 3530 (4000 ∷ 4020 ∷ [])
-    ∷ sampled (pos 500) 3330 3530 (4000 ∷ 4250 ∷ [])
-    ∷ sampled (pos 3000) 3330 3530 (4000 ∷ 4250 ∷ [])
-    ∷ sampled (belowZero 5000) 3330 3530 (4000 ∷ 4250 ∷ [])
-    ∷ sampled (belowZero 20000) 3330 3530 (4000 ∷ 4250 ∷ [])
+    ∷ sampled (pos 500) 3182 2980 (4000 ∷ 4020 ∷ [])
+    ∷ sampled (pos 500) 3332 2980 (4000 ∷ 4020 ∷ [])
+    ∷ sampled (pos 500) 3332 3532 (4000 ∷ 4020 ∷ [])
+    ∷ sampled (pos 500) 3332 3532 (4000 ∷ 4250 ∷ [])
+    ∷ sampled (pos 3000) 3332 3532 (4000 ∷ 4250 ∷ [])
+    ∷ sampled (belowZero 5000) 3332 3532 (4000 ∷ 4250 ∷ [])
+    ∷ sampled (belowZero 20000) 3332 3532 (4000 ∷ 4250 ∷ [])
     ∷ charged (2500 ∷ 4020 ∷ [])
     ∷ charged (4000 ∷ 4020 ∷ [])
     ∷ []))
@@ -208,8 +208,39 @@ modeCases =
     ∷ (10 ∷ 0 ∷ 3 ∷ 2 ∷ 0x03 ∷ [])
     ∷ [])
 
+-- Request 02: at the two tenths beside each temperature limit of that page. 45 and 40 degrees trip and release 5, 60 and 55 degrees 6, 80 and
+-- 70 degrees 7: a trip of C degrees needs 10 × C + 2732 or more, a release 10 × C + 2731 or less.
+abbrev degreeCases : Case
+degreeCases =
+    case
+    (answers (freshPack reporting)
+    (sampled (pos 0) 3181 2980 (4000 ∷ 4000 ∷ [])
+    ∷ sampled (pos 0) 3182 2980 (4000 ∷ 4000 ∷ [])
+    ∷ sampled (pos 0) 3331 2980 (4000 ∷ 4000 ∷ [])
+    ∷ sampled (pos 0) 3332 2980 (4000 ∷ 4000 ∷ [])
+    ∷ sampled (pos 0) 3282 2980 (4000 ∷ 4000 ∷ [])
+    ∷ sampled (pos 0) 3281 2980 (4000 ∷ 4000 ∷ [])
+    ∷ sampled (pos 0) 3132 2980 (4000 ∷ 4000 ∷ [])
+    ∷ sampled (pos 0) 3131 3531 (4000 ∷ 4000 ∷ [])
+    ∷ sampled (pos 0) 2980 3532 (4000 ∷ 4000 ∷ [])
+    ∷ sampled (pos 0) 2980 3432 (4000 ∷ 4000 ∷ [])
+    ∷ sampled (pos 0) 2980 3431 (4000 ∷ 4000 ∷ [])
+    ∷ []))
+    ((1 ∷ 0 ∷ 0 ∷ 0 ∷ 0x02 ∷ [])
+    ∷ (2 ∷ 32 ∷ 0 ∷ 0 ∷ 0x10 ∷ [])
+    ∷ (3 ∷ 32 ∷ 0 ∷ 0 ∷ 0x10 ∷ [])
+    ∷ (4 ∷ 96 ∷ 0 ∷ 0 ∷ 0x11 ∷ [])
+    ∷ (5 ∷ 96 ∷ 0 ∷ 0 ∷ 0x11 ∷ [])
+    ∷ (6 ∷ 32 ∷ 0 ∷ 0 ∷ 0x10 ∷ [])
+    ∷ (7 ∷ 32 ∷ 0 ∷ 0 ∷ 0x10 ∷ [])
+    ∷ (8 ∷ 0 ∷ 0 ∷ 0 ∷ 0x02 ∷ [])
+    ∷ (9 ∷ 128 ∷ 0 ∷ 0 ∷ 0x16 ∷ [])
+    ∷ (10 ∷ 128 ∷ 0 ∷ 0 ∷ 0x16 ∷ [])
+    ∷ (11 ∷ 0 ∷ 0 ∷ 0 ∷ 0x02 ∷ [])
+    ∷ [])
+
 abbrev pub cases : List Case
-cases = replay ∷ limitCases ∷ countCases ∷ commandCases ∷ pagelessCases ∷ modeCases ∷ []
+cases = replay ∷ limitCases ∷ countCases ∷ commandCases ∷ pagelessCases ∷ modeCases ∷ degreeCases ∷ []
 
 -- Every case gives what it is to give.
 pub cases-pass : gotAll cases ≡ rightAll cases

@@ -10,7 +10,7 @@ use lib.Dec.{leb}
 use lib.IntN.{ℤ, pos, negsuc, _+ℤ_, _*ℤ_}
 use lib.Signed.{leZ, ltZ}
 use Rattle.laws.specs.Tests.{and-left, test-ext}
-use Rattle.protections.specs.Direction.{reaches, back, inOrder}
+use Rattle.protections.specs.Direction.{reaches, backOf, inOrder}
 use Rattle.protections.specs.declared.Direction.{Direction}
 use Rattle.protections.specs.declared.Direction.the-variants.{Above, Below}
 use Rattle.page_words.specs.Ranges.{degreesFit}
@@ -65,6 +65,6 @@ tenths-less o u g w (negsuc a) (negsuc b) p q h =
 
 -- So a trip and a release that are in order as degrees are in order as levels, each in its own direction.
 pub tenths-order : (d : Direction) (a b : ℤ) → degreesFit a ≡ true → degreesFit b ≡ true → inOrder d a b ≡ true
-    → inOrder d (pos 10 *ℤ a +ℤ pos (tenthsAtZero d)) (pos 10 *ℤ b +ℤ pos (tenthsAtZero (back d))) ≡ true
+    → inOrder d (pos 10 *ℤ a +ℤ pos (tenthsAtZero d)) (pos 10 *ℤ b +ℤ pos (tenthsAtZero (backOf d))) ≡ true
 tenths-order Above a b p q h = tenths-less 2731 2732 (omega arith) (omega arith) b a q p h
 tenths-order Below a b p q h = tenths-less 2731 2732 (omega arith) (omega arith) a b p q h

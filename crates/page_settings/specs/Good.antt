@@ -12,7 +12,7 @@ use Rattle.laws.specs.Each.{eachTo, each-next}
 use Rattle.laws.specs.Numbered.{listOf-length, listOf-at, each-listOf}
 use Rattle.units.specs.Signed.{signedOf}
 use Rattle.protections.specs.Table.{rowAt, protections}
-use Rattle.protections.specs.Direction.{inOrder, back}
+use Rattle.protections.specs.Direction.{inOrder, backOf}
 use Rattle.protections.specs.Limits.{noLimits, limitsAt, AllGood}
 use Rattle.protections.specs.declared.Limits.{Limits}
 use Rattle.protections.specs.declared.Direction.{Direction}
@@ -86,7 +86,7 @@ limits-at b p h = listOf-at (limitsFrom b) protections p noLimits h
 
 -- Trip and release words in order stand for levels in order.
 level-order : (q : Quantity) (d : Direction) (x y : ℕ) → levelFits q x ≡ true → levelFits q y ≡ true
-    → inOrder d (levelOf q x) (levelOf q y) ≡ true → inOrder d (sampleLevel d q x) (sampleLevel (back d) q y) ≡ true
+    → inOrder d (levelOf q x) (levelOf q y) ≡ true → inOrder d (sampleLevel d q x) (sampleLevel (backOf d) q y) ≡ true
 unfolding levelFits levelOf inDegrees sampleLevel
 level-order HighestCell d x y a b h = h
 level-order LowestCell d x y a b h = h

@@ -10,7 +10,7 @@ use Rattle.units.specs.Levels.{level}
 use Rattle.units.specs.Signed.{signedOf}
 use Rattle.protections.specs.Limits.{noLimits}
 use Rattle.protections.specs.Table.{rowAt, protections}
-use Rattle.protections.specs.Direction.{back}
+use Rattle.protections.specs.Direction.{backOf}
 use Rattle.protections.specs.declared.Limits.{Limits}
 use Rattle.protections.specs.declared.Direction.{Direction}
 use Rattle.protections.specs.declared.Direction.the-variants.{Above, Below}
@@ -53,7 +53,7 @@ limitsFrom b p =
     let at = tripWord p in
     record {
       trip = level (sampleLevel (rowAt p .direction) (rowAt p .quantity) (wordAt b at));
-      release = level (sampleLevel (back (rowAt p .direction)) (rowAt p .quantity) (wordAt b (at + 1)));
+      release = level (sampleLevel (backOf (rowAt p .direction)) (rowAt p .quantity) (wordAt b (at + 1)));
       n = wordAt b (at + 2);
       m = wordAt b (at + 3);
       mask = wordAt b (at + 4);
