@@ -2,3 +2,5 @@
 pub mod Replay
 -- However the log is cut: what is written is what the replay writes, and the pack behind is the one that the events say.
 pub mod Run
+-- Worked logs, computed.
+pub mod Cases

@@ -4,3 +4,5 @@ pub mod Tell
 pub mod Says
 -- A line is refused with 17 exactly if it is malformed.
 pub mod Seventeen
+-- Worked lines, computed.
+pub mod Cases

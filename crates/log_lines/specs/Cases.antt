@@ -4,8 +4,8 @@ use mathlib.Core.Path.{_≡_, refl}
 use mathlib.Core.Bool.{Bool, true, false}
 use mathlib.Core.List.{List, [], _∷_, _++_}
 use lib.ListN.{length, replicate}
-use Rattle.text_fields.specs.Finding.{before}
-use Rattle.log_lines.specs.Lines.{linesOf, nextLine}
+use Rattle.text_fields.specs.Finding.{before, lacks}
+use Rattle.log_lines.specs.Lines.{linesOf, plain, nextLine}
 use Rattle.log_lines.specs.Carrying.{carried, moveDown}
 use Rattle.log_lines.specs.Walking.{whole}
 use Rattle.log_lines.specs.Folded.{behindLines, behindLog}
@@ -84,3 +84,13 @@ pub chunk : (answerLines count tell 2 3 (reached 0 [] 0) (whole (65 ∷ 10 ∷ 1
     × (answerLines count tell 2 4 (reached 0 [] 0) (whole (65 ∷ 10 ∷ 10 ∷ 66 ∷ [])) ≡ reached 3 (0 ∷ 10 ∷ 1 ∷ 10 ∷ []) 2)
 unfolding answerLines whole
 chunk = (refl, refl)
+
+-- no newline in no bytes and in a carriage return; one behind a byte, and one before it
+pub plains : (plain [] ≡ true) × (plain (65 ∷ 13 ∷ []) ≡ true) × (plain (65 ∷ 10 ∷ []) ≡ false) × (plain (10 ∷ 65 ∷ []) ≡ false)
+unfolding lacks
+plains = (refl, refl, refl, refl)
+
+-- the lines that have their newline: not the last one without
+pub wholes : (whole (65 ∷ 66 ∷ 10 ∷ 10 ∷ 67 ∷ []) ≡ (65 ∷ 66 ∷ []) ∷ [] ∷ []) × (whole (65 ∷ []) ≡ []) × (whole (65 ∷ 10 ∷ []) ≡ (65 ∷ []) ∷ [])
+unfolding whole
+wholes = (refl, refl, refl)
