@@ -2,9 +2,9 @@
 //!
 //! One file, no crates:  rustc -O --edition 2021 history.rs
 //!
-//! It is written from document 01 alone, to be compared with the pack keeper. It keeps every
-//! accepted sample since the load, and what was decided at each, and answers every question by
-//! looking back over them. It has no run counters.
+//! It is written from document 01, and from document 02 where its requests have landed, to be
+//! compared with the pack keeper. It keeps every accepted sample since the load, and what was
+//! decided at each, and answers every question by looking back over them. It has no run counters.
 //!
 //! Part 1 is the rules: check byte, page, sample, protections, switches, bleeding, words, log.
 //! Part 2 makes pages and logs to compare with. Part 3 works document 01's samples. Part 4 is the
@@ -287,6 +287,11 @@ impl Sample {
     fn lowest(&self) -> u16 {
         self.cells.iter().copied().min().unwrap_or(0)
     }
+    /// "its number, the lowest number where cells are equal" (document 02, request 03): the first
+    /// cell, counted from 1, that has these millivolts.
+    fn number_of(&self, millivolts: u16) -> u16 {
+        self.cells.iter().position(|&cell| cell == millivolts).map_or(0, |place| place as u16 + 1)
+    }
     /// "sum of the cells": at most 10 × 6000.
     fn sum(&self) -> u16 {
         self.cells.iter().sum()
@@ -527,6 +532,8 @@ impl History {
             0x30..=0x39 => sample.cells[usize::from(command - 0x30)],
             0x45 => self.raised_now() + 256 * self.fets(),
             0x46 => self.bled_now(),
+            // "the highest cell's number in the low byte and the lowest cell's in the high byte"
+            0x47 => sample.number_of(sample.highest()) + 256 * sample.number_of(sample.lowest()),
             _ => self.mode(), // 0x41
         }
     }
@@ -560,8 +567,9 @@ fn neighbour_taken(taken: u16, cell: usize) -> bool {
     below || above
 }
 
+/// The table "Words on the bus", and "command 0x47, new with us" (document 02, request 03).
 fn in_table(command: u8) -> bool {
-    matches!(command, 0x08 | 0x09 | 0x0A | 0x14..=0x16 | 0x30..=0x39 | 0x41 | 0x42 | 0x44..=0x46)
+    matches!(command, 0x08 | 0x09 | 0x0A | 0x14..=0x16 | 0x30..=0x39 | 0x41 | 0x42 | 0x44..=0x47)
 }
 
 // ---- The log ------------------------------------------------------------------------------
@@ -1225,13 +1233,15 @@ struct Story {
     sample: Sample,
     /// How many more samples stay as this one.
     hold: i64,
+    /// Do two cells share the highest reading, and two the lowest? So it is in half of the stories.
+    twins: bool,
 }
 
 impl Story {
-    fn new(words: &Words) -> Story {
+    fn new(words: &Words, twins: bool) -> Story {
         let cells = vec![4000; usize::from(words[1])];
         let sample = Sample { current: 500, temperature_1: 2980, temperature_2: 2980, cells };
-        Story { page: Page { words: *words }, sample, hold: 0 }
+        Story { page: Page { words: *words }, sample, hold: 0, twins }
     }
 
     /// A level of one of these protections, or one beside it; of degrees the tenths just below the
@@ -1293,6 +1303,26 @@ impl Story {
         }
     }
 
+    /// One cell more reads as the highest, and another as the lowest, before or after the one that
+    /// did. Where only one cell is left beside those two it is one of both, and two cells become
+    /// equal.
+    fn make_twins(&mut self, dice: &mut Dice) {
+        let extremes = [self.sample.highest(), self.sample.lowest()];
+        let kept = extremes.map(|extreme| usize::from(self.sample.number_of(extreme)) - 1);
+        let cells = &mut self.sample.cells;
+        let mut left: Vec<usize> = (0..cells.len()).filter(|place| !kept.contains(place)).collect();
+        if left.is_empty() {
+            cells[1] = cells[0];
+        }
+        let first = dice.below(2) as usize;
+        for extreme in [extremes[first], extremes[1 - first]] {
+            if !left.is_empty() {
+                let place = left.remove(dice.below(left.len() as u64) as usize);
+                cells[place] = extreme;
+            }
+        }
+    }
+
     /// How long the next sample stays: about one of the page's own run lengths, or short.
     fn some_hold(&self, dice: &mut Dice) -> i64 {
         let p = dice.below(8) as usize;
@@ -1318,6 +1348,9 @@ impl Story {
                 4 => self.calm(dice),
                 _ => self.change_cells(dice),
             }
+        }
+        if self.twins {
+            self.make_twins(dice);
         }
         self.hold = self.some_hold(dice);
         self.sample.clone()
@@ -1534,7 +1567,7 @@ fn join_lines(dice: &mut Dice, lines: &[Vec<u8>]) -> Vec<u8> {
 
 /// A log for this page, with about `count` lines.
 fn case_log(dice: &mut Dice, words: &Words, count: u64) -> Vec<Vec<u8>> {
-    let mut story = Story::new(words);
+    let mut story = Story::new(words, dice.one_in(2));
     let mut lines: Vec<Vec<u8>> = vec![];
     if count > 0 && !dice.one_in(4) {
         lines.push(command_line(3));
@@ -1547,7 +1580,7 @@ fn case_log(dice: &mut Dice, words: &Words, count: u64) -> Vec<Vec<u8>> {
 
 /// Several thousand lines, most of them of a few bytes, so that a read may end anywhere.
 fn short_lines(dice: &mut Dice, words: &Words) -> Vec<Vec<u8>> {
-    let mut story = Story::new(words);
+    let mut story = Story::new(words, dice.one_in(2));
     let count = dice.between(4000, 9000);
     (0..count)
         .map(|_| match dice.below(10) {
@@ -1582,7 +1615,7 @@ fn case(seed: u64, k: u64) -> (Vec<u8>, Vec<u8>) {
     };
     if k % 50 == 17 {
         for _ in 0..dice.between(1, 2) {
-            let good = sample_line(&Story::new(&words).sample);
+            let good = sample_line(&Story::new(&words, false).sample);
             let long = very_long_line(&mut dice, good);
             lines.insert(dice.below(lines.len() as u64 + 1) as usize, long);
         }
@@ -1873,6 +1906,57 @@ fn check_the_words(checks: &mut Checks) {
     checks.that("the check byte of a reply", reply == Ok([0x00, 0x80, check_byte(&frame)]));
 }
 
+/// Request 03: which cell is the highest and which the lowest.
+fn check_the_numbers(checks: &mut Checks) {
+    let ten = [3000, 3100, 3100, 3100, 3100, 3100, 3100, 3100, 3100, 3200];
+    let mut ten_back = ten;
+    ten_back.reverse();
+    for (cells, word) in [
+        (&[4000, 4020, 4020, 3990, 3990][..], 0x0402),
+        (&[4000; 5][..], 0x0101),
+        (&[4000; 2][..], 0x0101),
+        (&[4000, 4001][..], 0x0102),
+        (&ten[..], 0x010A),
+        (&ten_back[..], 0x0A01),
+        (&[3990, 4020, 3990, 4020][..], 0x0102),
+        (&[4020, 3990, 4020, 3990][..], 0x0201),
+        (&[0, 6000, 0][..], 0x0102),
+    ] {
+        let mut history = History::load(page_with(cells.len() as u16, &[]));
+        let asked = |history: &History, room| history.reply(0x47, room);
+        checks.that("0x47 before a sample gives 15", asked(&history, 3) == Err(15));
+        checks.that("0x47 with a wrong buffer gives 14", asked(&history, 2) == Err(14));
+        let accepted = history.offer(sample_of(0, cells)).is_ok();
+        let (low, high) = (word as u8, (word >> 8) as u8);
+        let check = check_byte(&[0x16, 0x47, 0x17, low, high]);
+        let what = format!("0x47 of the cells {:?}", cells);
+        checks.that(&what, accepted && asked(&history, 3) == Ok([low, high, check]));
+        checks.that("0x47 with a wrong buffer gives 14", asked(&history, 4) == Err(14));
+        let refused = history.offer(sample_of(0, &vec![6001; cells.len()])) == Err(10);
+        let stays = asked(&history, 3) == Ok([low, high, check]);
+        checks.that("0x47 goes by the latest accepted sample", refused && stays);
+    }
+    let stories = (0..1000).filter(|&k| ends_with_twins(1, k)).count();
+    checks.that("half of the generated cases end with equal cells", stories >= 500);
+}
+
+/// Is the page of case k taken, and do two cells of its last sample share the highest or the lowest
+/// reading?
+fn ends_with_twins(seed: u64, k: u64) -> bool {
+    let (page, log) = case(seed, k);
+    let mut history = match judge(&page) {
+        Err(_) => return false,
+        Ok(page) => History::load(page),
+    };
+    for line in lines(&log) {
+        let _ = history.take_line(line);
+    }
+    history.samples.last().map_or(false, |sample| {
+        let count = |reading| sample.cells.iter().filter(|&&cell| cell == reading).count();
+        count(sample.highest()) > 1 || count(sample.lowest()) > 1
+    })
+}
+
 fn check_the_limits(checks: &mut Checks) {
     let mut history = History::load(page_with(2, &[]));
     for (cell, answer) in [(6000, Ok(())), (6001, Err(10))] {
@@ -2029,6 +2113,7 @@ fn selftest() -> bool {
     check_the_debounce(&mut checks);
     check_the_bleeding(&mut checks);
     check_the_words(&mut checks);
+    check_the_numbers(&mut checks);
     check_the_limits(&mut checks);
     check_the_degrees(&mut checks);
     check_the_pages(&mut checks);
