@@ -44,6 +44,12 @@ function pack_word(    p, v) {
     for (p = 0; p < protections; p++) if (has(raised, p)) v += 2 ^ bit45[p]
     return v + 256 * (fets % 2) + 512 * int(fets / 2)
 }
+# The highest cell's number and 256 times the lowest cell's; looked at from the last cell to the first, so that the first of equal cells is left.
+function outermost(    i, high, low) {
+    high = low = cells + 0
+    for (i = cells; i >= 1; i--) { if (s[4 + i] + 0 >= s[4 + high] + 0) high = i; if (s[4 + i] + 0 <= s[4 + low] + 0) low = i }
+    return high + 256 * low
+}
 function wanted(text, command) {
     if (text == "temperature 1") return s[3]
     if (text == "temperature 2") return s[4]
@@ -56,6 +62,7 @@ function wanted(text, command) {
     if (text == "mode") return d[5]
     if (text == "raised protections and switches") return pack_word()
     if (text == "bled cells") return d[4]
+    if (text == "numbers of the highest and the lowest cell") return outermost()
     print "no such reply: " text
 }
 END {

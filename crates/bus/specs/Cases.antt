@@ -39,7 +39,7 @@ cell-commands = 0x30 ∷ 0x31 ∷ 0x32 ∷ 0x33 ∷ 0x34 ∷ 0x35 ∷ 0x36 ∷ 0
 
 -- Which of the 256 commands are in the table.
 pub commands : those (λ c. not (notInTable (rowOfCommand c))) (countFrom 0 256)
-    ≡ (0x08 ∷ 0x09 ∷ 0x0A ∷ 0x14 ∷ 0x15 ∷ 0x16 ∷ 0x30 ∷ 0x31 ∷ 0x32 ∷ 0x33 ∷ 0x34 ∷ 0x35 ∷ 0x36 ∷ 0x37 ∷ 0x38 ∷ 0x39 ∷ 0x41 ∷ 0x42 ∷ 0x44 ∷ 0x45 ∷ 0x46 ∷ [])
+    ≡ (0x08 ∷ 0x09 ∷ 0x0A ∷ 0x14 ∷ 0x15 ∷ 0x16 ∷ 0x30 ∷ 0x31 ∷ 0x32 ∷ 0x33 ∷ 0x34 ∷ 0x35 ∷ 0x36 ∷ 0x37 ∷ 0x38 ∷ 0x39 ∷ 0x41 ∷ 0x42 ∷ 0x44 ∷ 0x45 ∷ 0x46 ∷ 0x47 ∷ [])
 unfolding rowOfCommand table notInTable
 commands = refl
 
@@ -50,11 +50,11 @@ abbrev answers : ℕ → Bool → ℕ → List ℕ → List ℕ
 answers n sampled room cs = map (λ c. answerOfReply (answerFor n sampled c room) .number) cs
 
 -- A command that is not in the table gives 12, whatever the buffer, before a sample and after one.
-pub not-in-table : answers 10 true 3 (0x3A ∷ 0x3F ∷ 0x40 ∷ 0x43 ∷ 0x47 ∷ 0x00 ∷ 0xFF ∷ []) ≡ replicate 7 12
+pub not-in-table : answers 10 true 3 (0x3A ∷ 0x3F ∷ 0x40 ∷ 0x43 ∷ 0x48 ∷ 0x00 ∷ 0xFF ∷ []) ≡ replicate 7 12
 unfolding answerFor replyRefusals rowOfCommand table notInTable cellAbove
 not-in-table = refl
 
-pub not-in-table-first : answers 2 false 0 (0x3A ∷ 0x3F ∷ 0x40 ∷ 0x43 ∷ 0x47 ∷ 0x00 ∷ 0xFF ∷ []) ≡ replicate 7 12
+pub not-in-table-first : answers 2 false 0 (0x3A ∷ 0x3F ∷ 0x40 ∷ 0x43 ∷ 0x48 ∷ 0x00 ∷ 0xFF ∷ []) ≡ replicate 7 12
 unfolding answerFor replyRefusals rowOfCommand table notInTable cellAbove
 not-in-table-first = refl
 
@@ -85,11 +85,11 @@ unfolding rowOfCommand table cellAbove
 cells-alone = refl
 
 -- A buffer of two bytes or of four gives 14, 0x41 before a sample too.
-pub wrong-buffer : answers 10 false 2 (0x41 ∷ 0x45 ∷ 0x30 ∷ []) ≡ (14 ∷ 14 ∷ 14 ∷ [])
+pub wrong-buffer : answers 10 false 2 (0x41 ∷ 0x45 ∷ 0x47 ∷ 0x30 ∷ []) ≡ (14 ∷ 14 ∷ 14 ∷ 14 ∷ [])
 unfolding answerFor replyRefusals rowOfCommand table notInTable cellAbove
 wrong-buffer = refl
 
-pub long-buffer : answers 10 true 4 (0x41 ∷ 0x45 ∷ 0x30 ∷ []) ≡ (14 ∷ 14 ∷ 14 ∷ [])
+pub long-buffer : answers 10 true 4 (0x41 ∷ 0x45 ∷ 0x47 ∷ 0x30 ∷ []) ≡ (14 ∷ 14 ∷ 14 ∷ 14 ∷ [])
 unfolding answerFor replyRefusals rowOfCommand table notInTable cellAbove
 long-buffer = refl
 
@@ -100,7 +100,7 @@ pub no-sample
     ∷ 12 ∷ 12 ∷ 12 ∷ 12 ∷ 15 ∷ 15 ∷ 15 ∷ 12 ∷ 12 ∷ 12 ∷ 12 ∷ 12 ∷ 12 ∷ 12 ∷ 12 ∷ 12
     ∷ 12 ∷ 12 ∷ 12 ∷ 12 ∷ 12 ∷ 12 ∷ 12 ∷ 12 ∷ 12 ∷ 12 ∷ 12 ∷ 12 ∷ 12 ∷ 12 ∷ 12 ∷ 12
     ∷ 15 ∷ 15 ∷ 15 ∷ 15 ∷ 15 ∷ 15 ∷ 15 ∷ 15 ∷ 15 ∷ 15 ∷ 12 ∷ 12 ∷ 12 ∷ 12 ∷ 12 ∷ 12
-    ∷ 12 ∷ 0 ∷ 15 ∷ 12 ∷ 15 ∷ 15 ∷ 15 ∷ replicate 185 12)
+    ∷ 12 ∷ 0 ∷ 15 ∷ 12 ∷ 15 ∷ 15 ∷ 15 ∷ 15 ∷ replicate 184 12)
 unfolding answerFor replyRefusals rowOfCommand table notInTable cellAbove
 no-sample = refl
 
@@ -128,9 +128,9 @@ four = sampled 4 (4001 ∷ 4002 ∷ 4003 ∷ 4004 ∷ 0 ∷ 0 ∷ 0 ∷ 0 ∷ 0 
 
 pub of-a-page
     : (map (λ c. answerOfReply (answerAfter page (past (four ∷ []) 0) c 3) .number) cell-commands
-    ∷ map (λ c. answerOfReply (answerAfter page (past [] 3) c 3) .number) (0x41 ∷ 0x45 ∷ 0x33 ∷ 0x34 ∷ [])
+    ∷ map (λ c. answerOfReply (answerAfter page (past [] 3) c 3) .number) (0x41 ∷ 0x45 ∷ 0x47 ∷ 0x33 ∷ 0x34 ∷ [])
     ∷ [])
-    ≡ ((0 ∷ 0 ∷ 0 ∷ 0 ∷ 13 ∷ 13 ∷ 13 ∷ 13 ∷ 13 ∷ 13 ∷ []) ∷ (0 ∷ 15 ∷ 15 ∷ 13 ∷ []) ∷ [])
+    ≡ ((0 ∷ 0 ∷ 0 ∷ 0 ∷ 13 ∷ 13 ∷ 13 ∷ 13 ∷ 13 ∷ 13 ∷ []) ∷ (0 ∷ 15 ∷ 15 ∷ 15 ∷ 13 ∷ []) ∷ [])
 unfolding answerAfter answerFor replyRefusals rowOfCommand table notInTable cellAbove
 of-a-page = refl
 
@@ -142,6 +142,6 @@ unfolding answerFor replyRefusals rowOfCommand table notInTable cellAbove
 word-0 = refl
 
 -- A pack without a page.
-pub no-page : answers 0 false 3 (0x41 ∷ 0x45 ∷ 0x30 ∷ 0x39 ∷ 0x3A ∷ []) ≡ (0 ∷ 15 ∷ 13 ∷ 13 ∷ 12 ∷ [])
+pub no-page : answers 0 false 3 (0x41 ∷ 0x45 ∷ 0x47 ∷ 0x30 ∷ 0x39 ∷ 0x3A ∷ []) ≡ (0 ∷ 15 ∷ 15 ∷ 13 ∷ 13 ∷ 12 ∷ [])
 unfolding answerFor replyRefusals rowOfCommand table notInTable cellAbove
 no-page = refl

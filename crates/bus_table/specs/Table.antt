@@ -1,4 +1,4 @@
--- Document 01's table of commands, row by row.
+-- Document 01's table of commands, row by row, and document 02's row behind it: "command 0x47, new with us".
 -- Assumes nothing.
 use mathlib.Core.Path.{_≡_, refl, sym}
 use mathlib.Core.Bool.{cond}
@@ -9,7 +9,7 @@ use borrow.Author.Tests.{ne-eqb}
 use Rattle.bus_table.specs.declared.Sends.{Sends}
 use Rattle.bus_table.specs.declared.Sends.the-variants.{Nothing, Cell, Whole}
 use Rattle.bus_table.specs.declared.PackWord.{PackWord}
-use Rattle.bus_table.specs.declared.PackWord.the-variants.{Temperature1, Temperature2, Sum, Current, ChargingCurrent, ChargingVoltage, Status, Mode, Raised, Bled}
+use Rattle.bus_table.specs.declared.PackWord.the-variants.{Temperature1, Temperature2, Sum, Current, ChargingCurrent, ChargingVoltage, Status, Mode, Raised, Bled, Outermost}
 
 -- A command, and what it sends.
 pub record Row : Type 0 where
@@ -45,6 +45,7 @@ table =
     ∷ word 0x41 Mode
     ∷ word 0x45 Raised
     ∷ word 0x46 Bled
+    ∷ word 0x47 Outermost
     ∷ []
 
 -- The row of a command; a command that is not in the table sends nothing.

@@ -15,6 +15,7 @@ pub enum PackWord {
     Mode,
     Raised,
     Bled,
+    Outermost,
 }
 
 // What a command sends: a cell, a word of the whole pack, or nothing where it isn't in the table.
@@ -24,7 +25,7 @@ pub enum Sends {
     Whole(PackWord),
 }
 
-// What a command sends: document 01's table, in its order.
+// What a command sends: document 01's table, in its order, and behind it the command of document 02.
 pub fn row_of_command(command: u8) -> Sends
     ensures { λ r. ⌜ r ≡ rowOfCommand command ⌝ }
 {
@@ -50,6 +51,7 @@ pub fn row_of_command(command: u8) -> Sends
         0x41 => Sends::Whole(PackWord::Mode),
         0x45 => Sends::Whole(PackWord::Raised),
         0x46 => Sends::Whole(PackWord::Bled),
+        0x47 => Sends::Whole(PackWord::Outermost),
         _ => Sends::Nothing,
     }
 }

@@ -32,7 +32,7 @@ use Rattle.pack.specs.Events.{Event, offer, command, withEvent, pastOf}
 use Rattle.pack_state.specs.State.{wishAt, wishesAfter, bledAfter}
 use Rattle.pack_shown.specs.Shown.{modeOrder, firstMode, modeAfter}
 use Rattle.bus_table.specs.Table.{table, rowOfCommand}
-use Rattle.bus_words.specs.Words.{sumTo, cellWord, heatRaised, statusWord, withSwitches, packWord, sentWord, wordAfter}
+use Rattle.bus_words.specs.Words.{sumTo, cellWord, heatRaised, statusWord, withSwitches, numbersWord, packWord, sentWord, wordAfter}
 
 -- ---- battery status, each bit by itself, beside 0x0080
 
@@ -99,12 +99,12 @@ first-three =
     ∷ []
 
 abbrev all : List ℕ
-all = 0x08 ∷ 0x44 ∷ 0x09 ∷ 0x42 ∷ 0x0A ∷ 0x14 ∷ 0x15 ∷ 0x16 ∷ 0x30 ∷ 0x31 ∷ 0x32 ∷ 0x41 ∷ 0x45 ∷ 0x46 ∷ []
+all = 0x08 ∷ 0x44 ∷ 0x09 ∷ 0x42 ∷ 0x0A ∷ 0x14 ∷ 0x15 ∷ 0x16 ∷ 0x30 ∷ 0x31 ∷ 0x32 ∷ 0x41 ∷ 0x45 ∷ 0x46 ∷ 0x47 ∷ []
 
 -- After the second sample cell 1 is bled, and both switches are on.
 pub second-sample : words replayed (two (pos 500) 2981 2999 4260 4100 ∷ two (pos 500) 2980 2980 4000 4020 ∷ command 3 ∷ []) all
-    ≡ (2981 ∷ 2999 ∷ 8360 ∷ 8360 ∷ 500 ∷ 1500 ∷ 8400 ∷ 0x0080 ∷ 4260 ∷ 4100 ∷ 0 ∷ 0x03 ∷ 0x0300 ∷ 0x0001 ∷ [])
-unfolding wordAfter rowOfCommand table sentWord packWord sumTo cellWord statusWord heatRaised withSwitches withBitIf withBit hasBit wordOf pastOf
+    ≡ (2981 ∷ 2999 ∷ 8360 ∷ 8360 ∷ 500 ∷ 1500 ∷ 8400 ∷ 0x0080 ∷ 4260 ∷ 4100 ∷ 0 ∷ 0x03 ∷ 0x0300 ∷ 0x0001 ∷ 0x0201 ∷ [])
+unfolding wordAfter rowOfCommand table sentWord packWord sumTo cellWord numbersWord statusWord heatRaised withSwitches withBitIf withBit hasBit wordOf pastOf
     withEvent sampleVerdict sampleRefusals within cellsFit trimmed eachTo keptCell commandVerdict commandRefusals modeAfter firstMode
     modeOrder raisedWordAfter blocksAfter anyRaisedAfter bitsOf anyOf raised rowAt rows measure extremesOf bestOf bledAfter bledWordAfter wishesAfter wishAt
     wishes voltsOf wants withCellIf
@@ -112,8 +112,8 @@ second-sample = refl
 
 -- After the third, protection 0 is raised and blocks charge: the charging words are 0.
 pub third-sample : words replayed first-three all
-    ≡ (2980 ∷ 2980 ∷ 8360 ∷ 8360 ∷ 500 ∷ 0 ∷ 0 ∷ 0xC080 ∷ 4260 ∷ 4100 ∷ 0 ∷ 0x15 ∷ 0x0201 ∷ 0x0000 ∷ [])
-unfolding wordAfter rowOfCommand table sentWord packWord sumTo cellWord statusWord heatRaised withSwitches withBitIf withBit hasBit wordOf pastOf
+    ≡ (2980 ∷ 2980 ∷ 8360 ∷ 8360 ∷ 500 ∷ 0 ∷ 0 ∷ 0xC080 ∷ 4260 ∷ 4100 ∷ 0 ∷ 0x15 ∷ 0x0201 ∷ 0x0000 ∷ 0x0201 ∷ [])
+unfolding wordAfter rowOfCommand table sentWord packWord sumTo cellWord numbersWord statusWord heatRaised withSwitches withBitIf withBit hasBit wordOf pastOf
     withEvent sampleVerdict sampleRefusals within cellsFit trimmed eachTo keptCell commandVerdict commandRefusals modeAfter firstMode
     modeOrder raisedWordAfter blocksAfter anyRaisedAfter bitsOf anyOf raised rowAt rows measure extremesOf bestOf bledAfter bledWordAfter wishesAfter wishAt
     wishes voltsOf wants withCellIf
@@ -191,11 +191,30 @@ unlike = 4001 ∷ 4002 ∷ 4003 ∷ 4004 ∷ 4005 ∷ 4006 ∷ 4007 ∷ 4008 ∷
 
 pub ten-unlike
     : words (page-with 10 4200 (limited (pos 6000) (pos 5999) 2 2 0 ∷ never)) (offer (sampled 10 unlike (pos 0) 2980 2980) ∷ [])
-    (0x30 ∷ 0x31 ∷ 0x32 ∷ 0x33 ∷ 0x34 ∷ 0x35 ∷ 0x36 ∷ 0x37 ∷ 0x38 ∷ 0x39 ∷ 0x09 ∷ 0x3A ∷ 0x47 ∷ [])
+    (0x30 ∷ 0x31 ∷ 0x32 ∷ 0x33 ∷ 0x34 ∷ 0x35 ∷ 0x36 ∷ 0x37 ∷ 0x38 ∷ 0x39 ∷ 0x09 ∷ 0x3A ∷ 0x48 ∷ [])
     ≡ (4001 ∷ 4002 ∷ 4003 ∷ 4004 ∷ 4005 ∷ 4006 ∷ 4007 ∷ 4008 ∷ 4009 ∷ 4010 ∷ 40055 ∷ 0 ∷ 0 ∷ [])
 unfolding wordAfter rowOfCommand table sentWord packWord sumTo cellWord pastOf withEvent sampleVerdict sampleRefusals within cellsFit trimmed
     eachTo keptCell
 ten-unlike = refl
+
+-- ---- 0x47: the highest cell's number in the low byte, the lowest cell's in the high byte, of equal cells the lowest number
+
+abbrev outermost : ℕ → List ℕ → ℕ
+outermost n cells =
+    wordAfter (page-with n 4200 (limited (pos 6000) (pos 5999) 2 2 0 ∷ never)) (pastOf n (offer (sampled n cells (pos 0) 2980 2980) ∷ [])) 0x47
+
+pub outermost-cells
+    : (outermost 5 (4000 ∷ 4020 ∷ 4020 ∷ 3990 ∷ 3990 ∷ 6000 ∷ 0 ∷ 0 ∷ 0 ∷ 0 ∷ [])
+    ∷ outermost 10 (4000 ∷ 4000 ∷ 4000 ∷ 4000 ∷ 4000 ∷ 4000 ∷ 4000 ∷ 4000 ∷ 4000 ∷ 4000 ∷ [])
+    ∷ outermost 10 unlike
+    ∷ outermost 10 (4100 ∷ 4001 ∷ 4002 ∷ 4003 ∷ 4004 ∷ 4005 ∷ 4006 ∷ 4007 ∷ 4008 ∷ 3900 ∷ [])
+    ∷ outermost 2 (4000 ∷ 4020 ∷ 0 ∷ 0 ∷ 0 ∷ 0 ∷ 0 ∷ 0 ∷ 0 ∷ 0 ∷ [])
+    ∷ outermost 2 (4020 ∷ 4000 ∷ 0 ∷ 0 ∷ 0 ∷ 0 ∷ 0 ∷ 0 ∷ 0 ∷ 0 ∷ [])
+    ∷ [])
+    ≡ (0x0402 ∷ 0x0101 ∷ 0x010A ∷ 0x0A01 ∷ 0x0102 ∷ 0x0201 ∷ [])
+unfolding wordAfter rowOfCommand table sentWord packWord numbersWord pastOf withEvent sampleVerdict sampleRefusals within cellsFit trimmed eachTo
+    keptCell extremesOf bestOf
+outermost-cells = refl
 
 -- ---- ten cells of 6000 mV: the sum and n × word 7 are 60000, and entries past n are no cells
 

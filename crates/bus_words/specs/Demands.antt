@@ -4,11 +4,13 @@
 use mathlib.Core.Path.{_≡_, refl, ap, _∙_}
 use mathlib.Core.Bool.{Bool, true, false}
 use mathlib.Core.List.{List}
-use Prim.Native.Nat.{ℕ, _≤_, _<_}
+use Prim.Native.Nat.{ℕ, zero, suc, _%_, _/_, _≤_, _<_}
 use native.Mathlib.Omega.{arith}
 use lib.Count.{ones}
 use lib.Dec.{lit<}
 use Rattle.laws.specs.Bits.{hasBit, withBit, withBitIf}
+use Rattle.units.specs.declared.MilliVolts.{MilliVolts}
+use Rattle.units.specs.Cells.{tenAtMost, ten-most}
 use Rattle.units.specs.Signed.{wordOf, word-signed}
 use Rattle.protections.specs.Table.{protections}
 use Rattle.page_words.specs.Ranges.{wordAt}
@@ -21,9 +23,10 @@ use Rattle.page_settings.specs.Settings.{rulesOf, settingsOf}
 use Rattle.bleed.specs.Walk.Balance.{bled-few}
 use Rattle.pack_state.specs.declared.Pack.{Pack}
 use Rattle.sample.specs.declared.Sample.{Sample}
+use Rattle.sample.specs.Cells.{bestOf, highest, lowest, extremesOf, highest-number, lowest-number}
 use Rattle.pack.specs.Events.{Event}
 use Rattle.pack_state.specs.Past.{Past, past}
-use Rattle.pack_state.specs.State.{wishesAfter, byPage, bledAfter, balanceAfter, stateAfter}
+use Rattle.pack_state.specs.State.{wishesAfter, byPage, bledAfter, balanceAfter, latestAfter, stateAfter}
 use Rattle.pack.specs.Kept.{pageOf, pastAfter, packAfter}
 use Rattle.pack_shown.specs.Shown.{switchAfter, switchesWord}
 use Rattle.pack.specs.Calls.{page-accepted}
@@ -32,9 +35,9 @@ use Rattle.pack_shown.specs.Decided.{switches-is, raised-is, mode-is}
 use Rattle.bus_table.specs.declared.Sends.{Sends}
 use Rattle.bus_table.specs.declared.Sends.the-variants.{Nothing, Cell, Whole}
 use Rattle.bus_table.specs.declared.PackWord.{PackWord}
-use Rattle.bus_table.specs.declared.PackWord.the-variants.{Temperature1, Temperature2, Sum, Current, ChargingCurrent, ChargingVoltage, Status, Mode, Raised, Bled}
+use Rattle.bus_table.specs.declared.PackWord.the-variants.{Temperature1, Temperature2, Sum, Current, ChargingCurrent, ChargingVoltage, Status, Mode, Raised, Bled, Outermost}
 use Rattle.bus_table.specs.Table.{table, rowOfCommand}
-use Rattle.bus_words.specs.Words.{heatRaised, statusWord, statusOf, withSwitches, packWord, sentWord, saidAfter, wordAfter, saidOf}
+use Rattle.bus_words.specs.Words.{heatRaised, statusWord, statusOf, withSwitches, numbersWord, packWord, sentWord, saidAfter, wordAfter, saidOf}
 
 -- ---- the words
 
@@ -48,6 +51,18 @@ switch-bits on = bits (on 0) (on 1)
     bits true false = (refl, refl)
     bits false true = (refl, refl)
     bits false false = (refl, refl)
+
+-- A pack has ten cells at most, so that each number has a byte to itself.
+found-ten : (cells : List MilliVolts) (count : ℕ) → let e = extremesOf cells count in (e .highest .number .0 ≤ 10) × (e .lowest .number .0 ≤ 10)
+unfolding extremesOf bestOf
+found-ten cells count = few (tenAtMost count) (ten-most count)
+  where
+    few : (n : ℕ) → n ≤ 10 → (highest cells n .number .0 ≤ 10) × (lowest cells n .number .0 ≤ 10)
+    few zero h = (omega arith, omega arith)
+    few (suc k) h =
+        let a = highest-number cells (suc k) (omega arith) .1 in
+        let b = lowest-number cells (suc k) (omega arith) .1 in
+        (omega arith, omega arith)
 
 module _ (page : Settings) (p : Past) where
   abbrev state : Pack
@@ -89,6 +104,7 @@ module _ (page : Settings) (p : Past) where
   pack-word-is Mode = mode-is page p
   pack-word-is Raised = rw (raised-is page p, on-at .0, on-at .1)
   pack-word-is Bled = refl
+  pack-word-is Outermost = refl
 
   -- The word of each row is the page's and the past's.
   pub sent-word-is : (row : Sends) → sentWord (saidOf (stateAfter page p)) row ≡ sentWord (saidAfter page p) row
@@ -101,6 +117,16 @@ module _ (page : Settings) (p : Past) where
   pub bled-word-few : ones (wordAfter page p 0x46) ≤ page .rules .k
   unfolding wordAfter rowOfCommand table sentWord packWord bledAfter
   bled-word-few = byPage page bled-few (wishesAfter page (p .history))
+
+  -- "The highest cell's number in the low byte and the lowest cell's in the high byte."
+  pub outermost-bytes : let e = extremesOf (latestAfter (p .history) .cells) (latestAfter (p .history) .count) in
+      (wordAfter page p 0x47 % 256 ≡ e .highest .number .0) × (wordAfter page p 0x47 / 256 ≡ e .lowest .number .0)
+  unfolding wordAfter rowOfCommand table sentWord packWord numbersWord
+  outermost-bytes =
+      let few = found-ten (latestAfter (p .history) .cells) (latestAfter (p .history) .count) in
+      let a = few .0 in
+      let b = few .1 in
+      (omega arith, omega arith)
 
 -- "Values are those of the latest accepted sample; bits 8 and 9 of 0x45 also follow a later switch command": no other word does.
 module _ (page : Settings) (h : List Sample) (c d : ℕ) where
@@ -116,6 +142,7 @@ module _ (page : Settings) (h : List Sample) (c d : ℕ) where
   whole-kept Mode ne = refl
   whole-kept Raised ne = absurd (ne refl)
   whole-kept Bled ne = refl
+  whole-kept Outermost ne = refl
 
   pub command-moves-0x45 : (row : Sends) → (row ≡ Whole Raised → ⊥)
       → sentWord (saidAfter page (past h c)) row ≡ sentWord (saidAfter page (past h d)) row

@@ -15,8 +15,9 @@ use Rattle.laws.specs.Bits.{hasBit, withBit, withBitIf}
 use Rattle.units.specs.declared.MilliVolts.{MilliVolts}
 use Rattle.units.specs.Signed.{wordOf}
 use Rattle.sample.specs.declared.Sample.{Sample}
+use Rattle.sample.specs.declared.Extremes.{Extremes}
 use Rattle.units.specs.Cells.{tenAtMost}
-use Rattle.sample.specs.Cells.{noVolts}
+use Rattle.sample.specs.Cells.{noVolts, extremesOf}
 use Rattle.guard_raised.specs.Words.{raisedAfter, raisedWordAfter, raisedWord, blocksAfter, blocksAny}
 use Rattle.bleed_wants.specs.Wants.{isCharging}
 use Rattle.page_settings.specs.declared.Settings.{Settings}
@@ -27,7 +28,7 @@ use Rattle.pack_shown.specs.Shown.{switchAfter, switchesOf, modeAfter, modeOf}
 use Rattle.bus_table.specs.declared.Sends.{Sends}
 use Rattle.bus_table.specs.declared.Sends.the-variants.{Nothing, Cell, Whole}
 use Rattle.bus_table.specs.declared.PackWord.{PackWord}
-use Rattle.bus_table.specs.declared.PackWord.the-variants.{Temperature1, Temperature2, Sum, Current, ChargingCurrent, ChargingVoltage, Status, Mode, Raised, Bled}
+use Rattle.bus_table.specs.declared.PackWord.the-variants.{Temperature1, Temperature2, Sum, Current, ChargingCurrent, ChargingVoltage, Status, Mode, Raised, Bled, Outermost}
 use Rattle.bus_table.specs.Table.{rowOfCommand}
 
 -- What the words are read from.
@@ -63,6 +64,10 @@ sumWord s = sumTo (s .cells) (tenAtMost (s .count))
 unfoldable pub cellWord : List MilliVolts → ℕ → ℕ
 cellWord cells zero = 0
 cellWord cells (suc i) = cond (leb (suc i) 10) (getD cells i noVolts .0) 0
+
+-- "The highest cell's number in the low byte and the lowest cell's in the high byte."
+unfoldable pub numbersWord : Extremes → ℕ
+numbersWord e = e .highest .number .0 + 256 * e .lowest .number .0
 
 -- A bit of a word: its value, and whether it is set.
 pub record Bit : Type 0 where
@@ -120,6 +125,7 @@ module _ (x : Said) where
   packWord Mode = x .mode
   packWord Raised = raisedAndSwitches
   packWord Bled = x .bled
+  packWord Outermost = numbersWord (extremesOf (x .latest .cells) (x .latest .count))
 
   -- The word of a row; 0 where there is none.
   unfoldable pub sentWord : Sends → ℕ

@@ -4,9 +4,10 @@ ghost use mathlib.Core.Bool.{cond};
 ghost use Prim.Native.Nat.{_*_, _≤_};
 ghost use Rattle.laws.specs.Bits.{hasBit};
 ghost use Rattle.units.specs.Cells.{tenAtMost};
+ghost use Rattle.sample.specs.Cells.{extremesOf};
 ghost use Rattle.guard_raised.specs.Words.{blocksAny};
 ghost use Rattle.pack.specs.Kept.{Kept};
-ghost use Rattle.bus_words.specs.Words.{sumTo, sumWord, cellWord, heatRaised, packWord, sentWord, saidOf, statusOf, raisedAndSwitches, Bounded};
+ghost use Rattle.bus_words.specs.Words.{sumTo, sumWord, numbersWord, cellWord, heatRaised, packWord, sentWord, saidOf, statusOf, raisedAndSwitches, Bounded};
 use bleed_wants::is_charging;
 use bus_table::PackWord;
 use bus_table::Sends;
@@ -19,6 +20,7 @@ use pack_shown::switches;
 use pack_state::Pack;
 use page_settings::Rules;
 use sample::Sample;
+use sample::extremes_of;
 use units::CellNo;
 use units::MilliVolts;
 use units::ten_at_most;
@@ -63,6 +65,15 @@ fn cell_word(cells: [MilliVolts; 10], k: CellNo) -> u16
     let i = (number - 1) as usize;
     let v = cells[i];
     v.0
+}
+
+// The numbers of the highest and the lowest cell: the highest's in the low byte, the lowest's in the high byte.
+fn numbers_word(s: Sample) -> u16
+    ensures { λ r. ⌜ r ≡ numbersWord (extremesOf (s .cells) (s .count)) ⌝ }
+{
+    let cells = s.cells;
+    let e = extremes_of(cells, s.count);
+    (e.highest.number.0 as u16) + 256 * (e.lowest.number.0 as u16)
 }
 
 // n × word 7: ten cells of 6000 mV come to 60000.
@@ -145,6 +156,7 @@ fn pack_word(p: Pack, w: PackWord) -> u16
         PackWord::Mode => mode(p),
         PackWord::Raised => raised_and_switches(p),
         PackWord::Bled => b.bled,
+        PackWord::Outermost => numbers_word(latest),
     }
 }
 

@@ -12,11 +12,11 @@ use lib.ListN.{length, getD, drop}
 use borrow.Author.Tests.{ltb-true, eqb-true, eqb-false}
 use Rattle.laws.specs.Tests.{by-test, clash, and-left, and-right}
 use Rattle.laws.specs.Latest.{lastAll, among}
-use Rattle.units.specs.declared.MilliVolts.{MilliVolts}
 use Rattle.refusals.specs.declared.Verdict.{Verdict}
 use Rattle.refusals.specs.declared.Verdict.the-variants.{Accepted, Refused}
 use Rattle.sample.specs.declared.Sample.{Sample}
 use Rattle.sample.specs.declared.Extremes.{Extremes}
+use Rattle.sample.specs.declared.Found.{Found}
 use Rattle.pack_refusals.specs.Samples.{sampleVerdict, commandVerdict, trimmed}
 use Rattle.pack_refusals.specs.SampleLaws.{sample-exact}
 use Rattle.pack.specs.Events.{Event, offer, command, accepts, withEvent, pastOf}
@@ -87,12 +87,12 @@ one-wants : (page : Settings) (s : Sample) (h : List Sample) (k d : ℕ) → s .
     → wishAt page s h k ≡ true → wishAt page s h d ≡ true → d ≡ k
 unfolding wishAt wishes voltsOf
 one-wants page s h k d pair k1 k2 d1 d2 wk wd =
-    let low : ℕ = extremesOf (s .cells) (s .count) .lowest .0 in
-    let is : low ≡ lowest (s .cells) 2 .0 = ap (λ (e : Extremes). e .lowest .0) (extremes-are (s .cells) (s .count) (omega arith)) ∙ ap (λ (c : ℕ). lowest (s .cells) c .0) pair in
+    let low : ℕ = extremesOf (s .cells) (s .count) .lowest .volts .0 in
+    let is : low ≡ lowest (s .cells) 2 .volts .0 = ap (λ (e : Extremes). e .lowest .volts .0) (extremes-are (s .cells) (s .count) (omega arith)) ∙ ap (λ (c : ℕ). lowest (s .cells) c .volts .0) pair in
     let at = lowest-among (s .cells) 2 (omega arith) in
     let a : low < getD (s .cells) (k - 1) noVolts .0 = above-lowest _ _ _ _ low _ wk in
     let b : low < getD (s .cells) (d - 1) noVolts .0 = above-lowest _ _ _ _ low _ wd in
-    let same : low ≡ getD (s .cells) (at .place) noVolts .0 = is ∙ ap (λ (v : MilliVolts). v .0) (at .is) in
+    let same : low ≡ getD (s .cells) (at .place) noVolts .0 = is ∙ ap (λ (f : Found). f .volts .0) (at .is) in
     let there : (i : ℕ) → at .place ≡ i → low ≡ getD (s .cells) i noVolts .0 = λ i e. same ∙ ap (λ (x : ℕ). getD (s .cells) x noVolts .0) e in
     let not-k : at .place ≡ k - 1 → ⊥ = λ e. let z = there (k - 1) e in omega arith in
     let not-d : at .place ≡ d - 1 → ⊥ = λ e. let z = there (d - 1) e in omega arith in

@@ -31,7 +31,7 @@ use Rattle.pack_state.specs.Past.{Past}
 unfoldable pub wishAt : Settings → Sample → List Sample → ℕ → Bool
 wishAt page s h =
     wishes (isCharging (page .rules .detection) (s .current)) (anyRaisedAfter (page .limits) (s ∷ h)) (page .rules .floor .0)
-    (page .rules .difference .0) (extremesOf (s .cells) (s .count) .lowest .0) (s .cells)
+    (page .rules .difference .0) (extremesOf (s .cells) (s .count) .lowest .volts .0) (s .cells)
 
 -- Which cells wanted at each sample of a history.
 unfoldable pub wishesAfter : Settings → List Sample → List (ℕ → Bool)
@@ -118,7 +118,7 @@ nextBalance r want b =
 -- The word of the cells that want bleeding at a sample whose highest and lowest cell are e, by the protections after it.
 unfoldable pub wantAt : Rules → Sample → Extremes → List Protection → ℕ
 wantAt r s e ps =
-    wantingWord (r .n) (isCharging (r .detection) (s .current)) (anyRaised ps) (r .floor .0) (r .difference .0) (e .lowest .0) (s .cells)
+    wantingWord (r .n) (isCharging (r .detection) (s .current)) (anyRaised ps) (r .floor .0) (r .difference .0) (e .lowest .volts .0) (s .cells)
 
 -- The pack after an accepted sample, of which `s` is kept: "protections first, then bleeding with the new protections".
 unfoldable pub acceptedPack : Pack → Sample → Pack

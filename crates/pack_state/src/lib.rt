@@ -64,7 +64,7 @@ fn want_at(r: Rules, s: Sample, e: Extremes, ps: [Protection; PROTECTIONS]) -> u
         raised,
         r.floor,
         r.difference,
-        e.lowest,
+        e.lowest.volts,
         cells,
     )
 }

@@ -44,13 +44,46 @@ quantities = refl
 abbrev ten : List MilliVolts
 ten = cellsFrom (4000 ∷ 4020 ∷ 3990 ∷ 5999 ∷ 1 ∷ 4000 ∷ 4000 ∷ 4000 ∷ 4000 ∷ 6000 ∷ [])
 
-abbrev pair : ℕ → ℕ → Extremes
-pair h l = record { highest = record { 0 = h }; lowest = record { 0 = l } }
+-- The number and the millivolts of the highest, then of the lowest.
+abbrev pair : ℕ → ℕ → ℕ → ℕ → Extremes
+pair i h k l = record { highest = record { number = record { 0 = i }; volts = record { 0 = h } }; lowest = record { number = record { 0 = k }; volts = record { 0 = l } } }
 
 pub counts : map (extremesOf ten) (0 ∷ 1 ∷ 3 ∷ 4 ∷ 9 ∷ 10 ∷ 200 ∷ [])
-    ≡ (pair 0 0 ∷ pair 4000 4000 ∷ pair 4020 3990 ∷ pair 5999 3990 ∷ pair 5999 1 ∷ pair 6000 1 ∷ pair 6000 1 ∷ [])
+    ≡ (pair 0 0 0 0 ∷ pair 1 4000 1 4000 ∷ pair 2 4020 3 3990 ∷ pair 4 5999 3 3990 ∷ pair 4 5999 5 1 ∷ pair 10 6000 5 1 ∷ pair 10 6000 5 1 ∷ [])
 unfolding extremesOf bestOf
 counts = refl
+
+-- ---- "the lowest number where cells are equal"
+
+-- Equal cells at both ends: the first of each.
+pub equal-ends : extremesOf (cellsFrom (4000 ∷ 4020 ∷ 4020 ∷ 3990 ∷ 3990 ∷ 0 ∷ 0 ∷ 0 ∷ 0 ∷ 0 ∷ [])) 5 ≡ pair 2 4020 4 3990
+unfolding extremesOf bestOf
+equal-ends = refl
+
+-- All equal: cell 1 on both sides.
+abbrev level-cells : List MilliVolts
+level-cells = cellsFrom (4000 ∷ 4000 ∷ 4000 ∷ 4000 ∷ 4000 ∷ 4000 ∷ 4000 ∷ 4000 ∷ 4000 ∷ 4000 ∷ [])
+
+pub all-equal : map (extremesOf level-cells) (2 ∷ 5 ∷ 10 ∷ []) ≡ (pair 1 4000 1 4000 ∷ pair 1 4000 1 4000 ∷ pair 1 4000 1 4000 ∷ [])
+unfolding extremesOf bestOf
+all-equal = refl
+
+-- Ten cells, the extremes at the two ends; and the other way round.
+pub ends
+    : map (λ cells. extremesOf (cellsFrom cells) 10)
+    ((4100 ∷ 4001 ∷ 4002 ∷ 4003 ∷ 4004 ∷ 4005 ∷ 4006 ∷ 4007 ∷ 4008 ∷ 3900 ∷ [])
+    ∷ (3900 ∷ 4001 ∷ 4002 ∷ 4003 ∷ 4004 ∷ 4005 ∷ 4006 ∷ 4007 ∷ 4008 ∷ 4100 ∷ [])
+    ∷ [])
+    ≡ (pair 1 4100 10 3900 ∷ pair 10 4100 1 3900 ∷ [])
+unfolding extremesOf bestOf
+ends = refl
+
+-- Two cells.
+pub two-cells
+    : map (λ cells. extremesOf (cellsFrom cells) 2) ((4000 ∷ 4020 ∷ []) ∷ (4020 ∷ 4000 ∷ []) ∷ (0 ∷ 0 ∷ []) ∷ [])
+    ≡ (pair 2 4020 1 4000 ∷ pair 1 4020 2 4000 ∷ pair 1 0 1 0 ∷ [])
+unfolding extremesOf bestOf
+two-cells = refl
 
 -- ---- between the two levels, and at neither of them
 

@@ -18,8 +18,8 @@ use Rattle.sample.specs.Cells.{extremesOf}
 
 -- The table's column "Quantity", as one signed number, of a sample whose highest and lowest cell are e.
 abbrev pub measured : Extremes → Quantity → Sample → ℤ
-measured e HighestCell s = pos (e .highest .0)
-measured e LowestCell s = pos (e .lowest .0)
+measured e HighestCell s = pos (e .highest .volts .0)
+measured e LowestCell s = pos (e .lowest .volts .0)
 measured e Current s = s .current
 measured e Temperature1 s = pos (s .t1 .0)
 measured e Temperature2 s = pos (s .t2 .0)

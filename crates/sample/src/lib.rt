@@ -5,6 +5,7 @@ ghost use Rattle.sample.specs.Cells.{larger, smaller, widened, extremesO
 ghost use Rattle.sample.specs.Measure.{measured};
 ghost use Rattle.sample.specs.None.{noSample};
 use protections::Quantity;
+use units::CellNo;
 use units::DeciKelvin;
 use units::Level;
 use units::MilliVolts;
@@ -19,10 +20,16 @@ pub struct Sample {
     pub t2: DeciKelvin,
 }
 
+// A cell that was found: its number, and its millivolts.
+pub struct Found {
+    pub number: CellNo,
+    pub volts: MilliVolts,
+}
+
 // The highest and the lowest cell of a sample.
 pub struct Extremes {
-    pub highest: MilliVolts,
-    pub lowest: MilliVolts,
+    pub highest: Found,
+    pub lowest: Found,
 }
 
 // What stands for a sample where there is none: no cell, and 0 throughout.
@@ -41,27 +48,27 @@ pub fn no_sample() -> Sample
 // ---- highest and lowest cell
 
 // The larger of two; of two that are equal, the first.
-fn larger_of(a: MilliVolts, b: MilliVolts) -> MilliVolts
+fn larger_of(a: Found, b: Found) -> Found
     ensures { λ r. ⌜ r ≡ larger a b ⌝ }
 {
-    if a.0 < b.0 {
+    if a.volts.0 < b.volts.0 {
         return b;
     }
     a
 }
 
 // The smaller of two; of two that are equal, the first.
-fn smaller_of(a: MilliVolts, b: MilliVolts) -> MilliVolts
+fn smaller_of(a: Found, b: Found) -> Found
     ensures { λ r. ⌜ r ≡ smaller a b ⌝ }
 {
-    if b.0 < a.0 {
+    if b.volts.0 < a.volts.0 {
         return b;
     }
     a
 }
 
 // The extremes with one cell more.
-fn widened(e: Extremes, cell: MilliVolts) -> Extremes
+fn widened(e: Extremes, cell: Found) -> Extremes
     ensures { λ r. ⌜ r ≡ widened e cell ⌝ }
 {
     let highest = larger_of(e.highest, cell);
@@ -72,25 +79,35 @@ fn widened(e: Extremes, cell: MilliVolts) -> Extremes
     }
 }
 
-// The highest and the lowest of the first `count` cells; of none, 0 and 0.
+// The highest and the lowest of the first `count` cells, of equal cells the one with the lowest number; of none, number 0 and 0 mV.
 pub fn extremes_of(cells: [MilliVolts; 10], count: u8) -> Extremes
     ensures { λ r. ⌜ r ≡ extremesOf cells count ⌝ }
 {
     let n = ten_at_most(count);
     if n == 0 {
+        let none = Found {
+            number: CellNo(0),
+            volts: MilliVolts(0),
+        };
         return Extremes {
-            highest: MilliVolts(0),
-            lowest: MilliVolts(0),
+            highest: none,
+            lowest: none,
         };
     }
-    let first = cells[0];
+    let first = Found {
+        number: CellNo(1),
+        volts: cells[0],
+    };
     let mut e = Extremes {
         highest: first,
         lowest: first,
     };
     let mut i: usize = 1;
     while i < n {
-        let cell = cells[i];
+        let cell = Found {
+            number: CellNo((i + 1) as u8),
+            volts: cells[i],
+        };
         e = widened(e, cell);
         i += 1;
     }
@@ -104,8 +121,8 @@ pub fn measured(q: Quantity, s: Sample, e: Extremes) -> Level
     ensures { λ r. ⌜ r ≡ level (measured e q s) ⌝ }
 {
     match q {
-        Quantity::HighestCell => Level(e.highest.0 as i32),
-        Quantity::LowestCell => Level(e.lowest.0 as i32),
+        Quantity::HighestCell => Level(e.highest.volts.0 as i32),
+        Quantity::LowestCell => Level(e.lowest.volts.0 as i32),
         Quantity::Current => Level(s.current as i32),
         Quantity::Temperature1 => Level(s.t1.0 as i32),
         Quantity::Temperature2 => Level(s.t2.0 as i32),

@@ -88,8 +88,12 @@ unfolding rowOfCommand table
 returns-21 c = rw (c .match .keys21)
 
 returns-22 : tie.Need-returns-22
+unfolding rowOfCommand table
+returns-22 c = rw (c .match .keys22)
+
+returns-23 : tie.Need-returns-23
 unfolding table
-returns-22 c = row-none _ (c .match .rest)
+returns-23 c = row-none _ (c .match .rest)
 
 pub row-of-command-spec : {M : Type 1} → statement M
 row-of-command-spec =
@@ -116,4 +120,5 @@ row-of-command-spec =
     returns-19
     returns-20
     returns-21
-    returns-22)
+    returns-22
+    returns-23)

@@ -63,6 +63,12 @@ raised-and-switches-requires c κs = search needs
 enum-told-10 : tie.Need-enum-told-10
 enum-told-10 c = search needs
 
+enum-told-11 : tie.Need-enum-told-11
+enum-told-11 c = search needs
+
+numbers-word-requires : tie.Need-numbers-word-requires
+numbers-word-requires c κs = search needs
+
 returns : tie.Need-returns
 unfolding packWord
 returns c = rw (c .enum-told .given .1)
@@ -103,6 +109,10 @@ returns-10 : tie.Need-returns-10
 unfolding packWord
 returns-10 c = rw (c .enum-told10 .given .1)
 
+returns-11 : tie.Need-returns-11
+unfolding packWord
+returns-11 c = rw (c .before .enum-told11 .given .1) (c .numbers-word .ensures)
+
 pub pack-word-spec : {M : Type 1} → statement M
 pack-word-spec =
     tie.close
@@ -126,6 +136,8 @@ pack-word-spec =
     enum-told-9
     raised-and-switches-requires
     enum-told-10
+    enum-told-11
+    numbers-word-requires
     returns
     returns-2
     returns-3
@@ -135,4 +147,5 @@ pack-word-spec =
     returns-7
     returns-8
     returns-9
-    returns-10)
+    returns-10
+    returns-11)

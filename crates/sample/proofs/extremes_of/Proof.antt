@@ -20,17 +20,23 @@ ten-at-most-requires c κs = search needs
 returns : tie.Need-returns Inv-loop μ-loop
 returns c = extremes-none _ _ (sym (c .before .ten-at-most .ensures) ∙ c .if1 .taken)
 
-array-copy-out-first : tie.Need-array-copy-out-first Inv-loop μ-loop
-array-copy-out-first c = search needs
+array-copy-out-t16 : tie.Need-array-copy-out-t16 Inv-loop μ-loop
+array-copy-out-t16 c = search needs
 
 loop-holds : tie.Need-loop-holds Inv-loop μ-loop
 loop-holds c = (omega arith, omega arith, rw (c .before .before .ten-at-most .ensures) (ten-most (c .before .before .before .args .count)), extremes-first _)
 
-mul-cell : tie.Need-mul-cell Inv-loop μ-loop
-mul-cell c = search needs
+add-t18 : tie.Need-add-t18 Inv-loop μ-loop
+add-t18 c = search needs
 
-array-copy-out-cell : tie.Need-array-copy-out-cell Inv-loop μ-loop
-array-copy-out-cell c = search needs
+cast-t19 : tie.Need-cast-t19 Inv-loop μ-loop
+cast-t19 c = search needs
+
+mul-t21 : tie.Need-mul-t21 Inv-loop μ-loop
+mul-t21 c = search needs
+
+array-copy-out-t24 : tie.Need-array-copy-out-t24 Inv-loop μ-loop
+array-copy-out-t24 c = search needs
 
 widened-requires : tie.Need-widened-requires Inv-loop μ-loop
 widened-requires c κs = search needs
@@ -59,10 +65,12 @@ extremes-of-spec =
     μ-loop
     ten-at-most-requires
     returns
-    array-copy-out-first
+    array-copy-out-t16
     loop-holds
-    mul-cell
-    array-copy-out-cell
+    add-t18
+    cast-t19
+    mul-t21
+    array-copy-out-t24
     widened-requires
     add-i
     loop-less
