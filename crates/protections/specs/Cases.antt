@@ -33,6 +33,11 @@ heats
 unfolding rowAt table
 heats = refl
 
+-- Both cold protections look at temperature 1, trip at or below, and have no mode.
+colds : (rowAt 8 ∷ rowAt 9 ∷ []) ≡ (rowWith Temperature1 Below Silent ∷ rowWith Temperature1 Below Silent ∷ [])
+unfolding rowAt table
+colds = refl
+
 -- A level is reached at the level itself, in both directions.
 at-the-level
     : (reaches Above (pos 4250) (pos 4250) ∷ reaches Above (pos 4250) (pos 4249) ∷ reaches Below (pos 2500) (pos 2500) ∷ reaches Below (pos 2500) (pos 2501) ∷ [])

@@ -1,4 +1,4 @@
--- The eight protections, document 01's table row by row.
+-- The ten protections: document 01's table row by row, and document 02's two for cold packs.
 -- Assumes nothing.
 use mathlib.Core.Path.{_≡_, refl, ap}
 use mathlib.Core.List.{List, [], _∷_}
@@ -27,9 +27,10 @@ abbrev named : String → Quantity → Direction → Mode → Named
 named s q d m = record { name = s; row = rowWith q d m }
 
 abbrev last : Named
-last = named "second thermistor" Temperature2 Above (Number 0x16)
+last = named "discharge cold" Temperature1 Below Silent
 
--- p is the place in this list.
+-- p is the place in this list. "Two more protections on temperature 1, tripping at or below: 8 for charge, 9 for discharge. They have no
+-- mode number."
 unfoldable pub table : List Named
 table =
     named "over voltage" HighestCell Above (Number 0x15)
@@ -39,12 +40,14 @@ table =
     ∷ named "short current" Current Below (Number 0x14)
     ∷ named "charge over heat" Temperature1 Above (Number 0x10)
     ∷ named "discharge over heat" Temperature1 Above (Number 0x11)
+    ∷ named "second thermistor" Temperature2 Above (Number 0x16)
+    ∷ named "charge cold" Temperature1 Below Silent
     ∷ last
     ∷ []
 
 -- How many there are.
 abbrev pub protections : ℕ
-protections = 8
+protections = 10
 
 table-length : length table ≡ protections
 unfolding table
@@ -55,10 +58,14 @@ unfoldable pub rowAt : ℕ → Row
 unfolding table
 rowAt p = getD table p last .row
 
-pub row-past : (p : ℕ) → 7 ≤ p → rowAt p ≡ last .row
+-- 8 and 9 are alike, so this is the row from 8 on.
+pub row-past : (p : ℕ) → 8 ≤ p → rowAt p ≡ last .row
 unfolding rowAt table
 row-past p h =
     ⊎-elim
-    (λ (e : 7 ≡ p). rw (← e))
-    (λ (q : 7 < p). ap (λ (x : Named). x .row) (List·getD-eq-default table last q))
+    (λ (e : 8 ≡ p). rw (← e))
+    (λ (q : 8 < p). ⊎-elim
+    (λ (e : 9 ≡ p). rw (← e))
+    (λ (q : 9 < p). ap (λ (x : Named). x .row) (List·getD-eq-default table last q))
+    (eq-or-lt-of-le q))
     (eq-or-lt-of-le h)

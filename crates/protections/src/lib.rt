@@ -1,4 +1,4 @@
-// Document 01's table of the eight protections: what each looks at, which way it trips, its mode number.
+// The table of the protections, document 01's eight and document 02's two: what each looks at, which way it trips, its mode number.
 ghost use mathlib.Core.Path.{_≡_};
 ghost use Rattle.protections.specs.Direction.{backOf};
 ghost use Rattle.protections.specs.Table.{rowWith, rowAt};
@@ -6,7 +6,7 @@ use units::Level;
 use units::ProtectionNo;
 
 // How many protections a page and a pack state hold.
-pub const PROTECTIONS: usize = 8;
+pub const PROTECTIONS: usize = 10;
 
 // What a protection looks at in a sample.
 pub enum Quantity {
@@ -78,6 +78,8 @@ pub fn row_of(p: ProtectionNo) -> Row
         4 => row_with(Quantity::Current, Direction::Below, Mode::Number(0x14)),
         5 => row_with(Quantity::Temperature1, Direction::Above, Mode::Number(0x10)),
         6 => row_with(Quantity::Temperature1, Direction::Above, Mode::Number(0x11)),
-        _ => row_with(Quantity::Temperature2, Direction::Above, Mode::Number(0x16)),
+        7 => row_with(Quantity::Temperature2, Direction::Above, Mode::Number(0x16)),
+        // 8, charge cold, and 9, discharge cold.
+        _ => row_with(Quantity::Temperature1, Direction::Below, Mode::Silent),
     }
 }

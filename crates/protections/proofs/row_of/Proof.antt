@@ -31,6 +31,9 @@ row-with-requires-7 c κs = search needs
 row-with-requires-8 : tie.Need-row-with-requires-8
 row-with-requires-8 c κs = search needs
 
+row-with-requires-9 : tie.Need-row-with-requires-9
+row-with-requires-9 c κs = search needs
+
 returns : tie.Need-returns
 unfolding rowAt table
 returns c = rw (c .before .match .keys1) (c .row-with .ensures)
@@ -59,14 +62,18 @@ returns-7 : tie.Need-returns-7
 unfolding rowAt table
 returns-7 c = rw (c .before .match .keys7) (c .row-with7 .ensures)
 
+returns-8 : tie.Need-returns-8
+unfolding rowAt table
+returns-8 c = rw (c .before .match .keys8) (c .row-with8 .ensures)
+
 -- A number that is at least k and not k is at least k + 1.
 past : (p k : ℕ) → k ≤ p → (p ≡ k → ⊥) → suc k ≤ p
 past p k h ne = omega arith
 
-returns-8 : tie.Need-returns-8
-returns-8 c =
+returns-9 : tie.Need-returns-9
+returns-9 c =
     let r = c .before .match .rest in
-    c .row-with8 .ensures ∙ sym (row-past (c .before .before .args .p .0) (past _ 6 (past _ 5 (past _ 4 (past _ 3 (past _ 2 (past _ 1 (past _ 0 zero-le (r .0 .0 .0 .0 .0 .0 .1)) (r .0 .0 .0 .0 .0 .1)) (r .0 .0 .0 .0 .1)) (r .0 .0 .0 .1)) (r .0 .0 .1)) (r .0 .1)) (r .1)))
+    c .row-with9 .ensures ∙ sym (row-past (c .before .before .args .p .0) (past _ 7 (past _ 6 (past _ 5 (past _ 4 (past _ 3 (past _ 2 (past _ 1 (past _ 0 zero-le (r .0 .0 .0 .0 .0 .0 .0 .1)) (r .0 .0 .0 .0 .0 .0 .1)) (r .0 .0 .0 .0 .0 .1)) (r .0 .0 .0 .0 .1)) (r .0 .0 .0 .1)) (r .0 .0 .1)) (r .0 .1)) (r .1)))
 
 pub row-of-spec : {M : Type 1} → statement M
 row-of-spec =
@@ -80,6 +87,7 @@ row-of-spec =
     row-with-requires-6
     row-with-requires-7
     row-with-requires-8
+    row-with-requires-9
     returns
     returns-2
     returns-3
@@ -87,4 +95,5 @@ row-of-spec =
     returns-5
     returns-6
     returns-7
-    returns-8)
+    returns-8
+    returns-9)
