@@ -15,7 +15,7 @@ use Rattle.crc.specs.CheckByte.{checkByte}
 use Rattle.units.specs.declared.ProtectionNo.{ProtectionNo}
 use Rattle.protections.specs.Direction.{inOrder}
 use Rattle.protections.specs.Limits.{leastRun, mostRun, mostMask}
-use Rattle.protections.specs.Table.{rowAt, protections}
+use Rattle.protections.specs.Table.{rowAt}
 use Rattle.page_words.specs.Ranges.{wordAt, within, levelFits, levelOf}
 use Rattle.page_faults.specs.Kinds.{shortLayout, checkAt, bytesOf, frontKind, tripWord, partKind, kindOf, kind-front, kind-part, Inside}
 use Rattle.page_faults.specs.Met.{levelMet, orderMet, onRow, kindMeets, meets}
@@ -149,5 +149,5 @@ module _ (b : List ℕ) (e : judged b ≡ Accepted) where
   pub accepted-inside : (i : ℕ) → i < 16 → Inside (frontKind i) (wordAt b i)
   accepted-inside = front-inside own (omega arith) b (tests .faults)
 
-  pub accepted-limits : (p : ℕ) → p < protections → Limited b p
+  pub accepted-limits : (p : ℕ) → p < shortLayout .protections → Limited b p
   accepted-limits = words-limited own (omega arith) b (tests .faults)

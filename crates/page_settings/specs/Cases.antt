@@ -21,7 +21,7 @@ use Rattle.page_judge.specs.Worked.{workedPage, unlikePage, minusWord}
 use Rattle.refusals.specs.declared.Verdict.the-variants.{Accepted, Refused}
 use Rattle.page_settings.specs.declared.Rules.{Rules}
 use Rattle.page_settings.specs.declared.Settings.{Settings}
-use Rattle.page_settings.specs.Settings.{inDegrees, sampleLevel, limitsFrom, limitsOf, rulesOf, settingsOf, noSettings, loadedOf}
+use Rattle.page_settings.specs.Settings.{inDegrees, sampleLevel, limitsFrom, limitsFor, limitsOf, rulesOf, settingsOf, noSettings, loadedOf}
 
 -- ---- levels
 
@@ -87,11 +87,13 @@ worked =
           ∷ limits (pos 3182) (pos 3131) 2 2 1
           ∷ limits (pos 3332) (pos 3281) 2 2 2
           ∷ limits (pos 3532) (pos 3431) 2 2 3
+          ∷ limits (negsuc 0) (pos 0) 1 1 0
+          ∷ limits (negsuc 0) (pos 0) 1 1 0
           ∷ [];
     }
 
 pub worked-loaded : loadedOf workedPage ≡ record { verdict = Accepted; settings = worked }
-unfolding loadedOf settingsOf rulesOf limitsOf limitsFrom sampleLevel inDegrees levelOf signedOf judged refusals meets kindOf kindMeets onRow
+unfolding loadedOf settingsOf rulesOf limitsOf limitsFor limitsFrom sampleLevel inDegrees levelOf signedOf judged refusals meets kindOf kindMeets onRow
     levelMet orderMet listOf listFrom wordAt within degreesFit levelFits rowAt table checkByte remainder withByte timesXs timesX
 worked-loaded = refl
 
@@ -120,11 +122,13 @@ unlike =
           ∷ limits (pos 3232) (pos 2331) 14 15 1
           ∷ limits (pos 3382) (pos 2731) 16 17 2
           ∷ limits (pos 3932) (pos 2681) 240 239 3
+          ∷ limits (negsuc 0) (pos 0) 1 1 0
+          ∷ limits (negsuc 0) (pos 0) 1 1 0
           ∷ [];
     }
 
 unlike-loaded : loadedOf unlikePage ≡ record { verdict = Accepted; settings = unlike }
-unfolding loadedOf settingsOf rulesOf limitsOf limitsFrom sampleLevel inDegrees levelOf signedOf judged refusals meets kindOf kindMeets onRow
+unfolding loadedOf settingsOf rulesOf limitsOf limitsFor limitsFrom sampleLevel inDegrees levelOf signedOf judged refusals meets kindOf kindMeets onRow
     levelMet orderMet listOf listFrom wordAt within degreesFit levelFits rowAt table checkByte remainder withByte timesXs timesX
 unlike-loaded = refl
 
@@ -144,7 +148,7 @@ silent =
             voltage = record { 0 = 0 };
             current = pos 0;
           };
-      limits = replicate 8 (limits (pos 0) (pos 0) 0 0 0);
+      limits = replicate 10 (limits (pos 0) (pos 0) 0 0 0);
     }
 
 none-loaded : loadedOf [] ≡ record { verdict = Refused 1 0; settings = silent }
