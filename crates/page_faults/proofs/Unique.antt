@@ -2,8 +2,8 @@
 -- Assumes nothing.
 use mathlib.Core.Path.{sym, _∙_}
 use Rattle.laws.specs.Unique.{Unique}
-use Rattle.page_faults.proofs.short_layout.Reads as short-layout
-use Rattle.page_faults.proofs.short_layout.Kinds as short-layout-kinds
+use Rattle.page_faults.proofs.layout_of.Reads as layout-of
+use Rattle.page_faults.proofs.layout_of.Kinds as layout-of-kinds
 use Rattle.page_faults.proofs.check_at.Reads as check-at
 use Rattle.page_faults.proofs.check_at.Kinds as check-at-kinds
 use Rattle.page_faults.proofs.trip_word.Reads as trip-word
@@ -13,8 +13,8 @@ use Rattle.page_faults.proofs.kind_of.Kinds as kind-of-kinds
 use Rattle.page_faults.proofs.meets.Reads as meets
 use Rattle.page_faults.proofs.meets.Kinds as meets-kinds
 
-short-layout-one : Unique 0 short-layout-kinds.ps short-layout-kinds.r short-layout.Post
-short-layout-one κs a x y s t p q = p ∙ sym q
+layout-of-one : Unique 0 layout-of-kinds.ps layout-of-kinds.r layout-of.Post
+layout-of-one κs a x y s t p q = p ∙ sym q
 
 check-at-one : Unique 0 check-at-kinds.ps check-at-kinds.r check-at.Post
 check-at-one κs a x y s t p q = p ∙ sym q

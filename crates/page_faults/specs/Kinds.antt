@@ -1,13 +1,14 @@
--- What each word of a settings page is: document 01's table of words, said once, for a page of any layout.
+-- What each word of a settings page is: document 01's table of words, said once, for a page of any layout, and the two layouts there are.
 -- Assumes nothing.
 use mathlib.Core.Path.{_≡_, refl}
-use mathlib.Core.Bool.{cond}
+use mathlib.Core.Bool.{_||_, cond}
 use mathlib.Core.List.{List, [], _∷_}
 use Prim.Native.Nat.{ℕ, _+_, _-_, _*_, _/_, _%_, _<_, _≤_}
 use native.Mathlib.Omega.{arith}
-use borrow.Author.Tests.{lt-ltb, le-ltb}
+use borrow.Author.Tests.{lt-ltb, le-ltb, eqb-true}
 use lib.Dec.{ltb, eqb}
 use lib.ListN.{getD, List·getD-eq-default}
+use Rattle.laws.specs.Tests.{by-test}
 use Rattle.units.specs.declared.ProtectionNo.{ProtectionNo}
 use Rattle.protections.specs.Limits.{leastRun, mostRun, mostMask}
 use Rattle.page_faults.specs.declared.Layout.{Layout}
@@ -19,6 +20,15 @@ use Rattle.page_faults.specs.declared.Kind.the-variants.{Mark, Setting, 
 -- The page of document 01: mark 0x17A4, eight protections, words 0 to 63.
 abbrev pub shortLayout : Layout
 shortLayout = record { mark = 0x17A4; protections = 8; last = 63 }
+
+-- "The new page has 160 bytes, mark 0x17A5, protections in words 16 to 65, words 66 to 78 zero, byte 158 zero and in byte 159 the check
+-- byte of bytes 0..158": ten protections, words 0 to 79.
+abbrev pub longLayout : Layout
+longLayout = record { mark = 0x17A5; protections = 10; last = 79 }
+
+-- The layout of a page, by its length. A page of neither length has the short one here; row 1 refuses it before any other row is asked.
+abbrev pub layoutOf : ℕ → Layout
+layoutOf n = cond (eqb n 160) longLayout shortLayout
 
 -- A word has two bytes. The high byte of the last word is the check byte of all bytes before it, and the last byte of the page.
 abbrev pub checkAt : Layout → ℕ
@@ -100,3 +110,20 @@ kind-part l p f hp hf =
     let q : (tripWord p + f - 16) / 5 ≡ p = omega arith in
     let r : (tripWord p + f - 16) % 5 ≡ f = omega arith in
     rw (le-ltb (tripWord p + f) 16 (omega arith), lt-ltb (tripWord p + f) (tripWord (l .protections)) (omega arith), q, r)
+
+-- ---- of both layouts
+
+-- What holds of both holds of the layout of any length.
+pub both : (P : Layout → Type 0) → P shortLayout → P longLayout → (n : ℕ) → P (layoutOf n)
+both P s l n = by-test (eqb n 160) (λ t. rw t l) (λ t. rw t s)
+
+-- There is room for the protections in front of the last word.
+pub has-room : (n : ℕ) → tripWord (layoutOf n .protections) ≤ layoutOf n .last
+has-room = both (λ (l : Layout). tripWord (l .protections) ≤ l .last) (omega arith) (omega arith)
+
+-- A page is as long as its layout says exactly if it has 128 or 160 bytes.
+pub length-fits : (n : ℕ) → (eqb n 128 || eqb n 160) ≡ eqb n (bytesOf (layoutOf n))
+length-fits n =
+    by-test (eqb n 160)
+    (λ t. rw (eqb-true n 160 t))
+    (λ t. by-test (eqb n 128) (λ u. rw (eqb-true n 128 u)) (λ u. rw (t, u)))

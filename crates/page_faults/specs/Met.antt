@@ -27,7 +27,8 @@ onRow number row met = cond (eqb row number) met true
 
 -- What the rows ask of word i, by what it is: "5, a reserved word, or byte 126 (as word 63), isn't 0; 6, one of words 1..8 out of range;
 -- 7, a protection word out of range; 8, trip and release not in the order above", for which the trip word is named. The mark has rows
--- of its own, 2 and 3.
+-- of its own, 2 and 3. "On a 160-byte page refusal 5 looks at words 9 to 15, words 66 to 78 and byte 158, which is named as word 79;
+-- words 56 to 62 and byte 126 belong to protections there."
 unfoldable pub kindMeets : Kind → ℕ → List ℕ → ℕ → Bool
 kindMeets Mark row b i = true
 kindMeets (Setting low high) row b i = onRow 6 row (within low high (wordAt b i))

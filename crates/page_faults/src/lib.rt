@@ -1,7 +1,7 @@
-// What each word of a settings page is, and what rows 5 to 8 of the refusal table ask of it.
+// The two layouts of a settings page, what each word of it is, and what rows 5 to 8 of the refusal table ask of it.
 ghost use mathlib.Core.Path.{_≡_};
 ghost use Rattle.page_faults.specs.declared.Kind.{Kind};
-ghost use Rattle.page_faults.specs.Kinds.{shortLayout, checkAt, tripWord, frontKind, partKind, kindOf};
+ghost use Rattle.page_faults.specs.Kinds.{layoutOf, checkAt, tripWord, frontKind, partKind, kindOf};
 ghost use Rattle.page_faults.specs.Met.{levelMet, orderMet, onRow, kindMeets, meets};
 use page_words::byte_at;
 use page_words::in_order;
@@ -35,10 +35,17 @@ pub enum Kind {
     Outside,
 }
 
-// "128 bytes, 64 words": the layout of document 01's page.
-pub fn short_layout() -> Layout
-    ensures { λ r. ⌜ r ≡ shortLayout ⌝ }
+// The layout of a page, by its length: document 02's page of 160 bytes, or document 01's of 128.
+pub fn layout_of(bytes: usize) -> Layout
+    ensures { λ r. ⌜ r ≡ layoutOf bytes ⌝ }
 {
+    if bytes == 160 {
+        return Layout {
+            mark: 0x17A5,
+            protections: 10,
+            last: 79,
+        };
+    }
     Layout {
         mark: 0x17A4,
         protections: 8,

@@ -17,12 +17,12 @@ use Rattle.protections.specs.Direction.{inOrder}
 use Rattle.protections.specs.Limits.{leastRun, mostRun, mostMask}
 use Rattle.protections.specs.Table.{rowAt}
 use Rattle.page_words.specs.Ranges.{wordAt, within, levelFits, levelOf}
-use Rattle.page_faults.specs.Kinds.{shortLayout, checkAt, bytesOf, frontKind, tripWord, partKind, kindOf, kind-front, kind-part, Inside}
+use Rattle.page_faults.specs.Kinds.{layoutOf, checkAt, bytesOf, has-room, frontKind, tripWord, partKind, kindOf, kind-front, kind-part, Inside}
 use Rattle.page_faults.specs.Met.{levelMet, orderMet, onRow, kindMeets, meets}
 use Rattle.page_faults.specs.declared.Layout.{Layout}
 use Rattle.page_faults.specs.declared.Kind.{Kind}
 use Rattle.page_faults.specs.declared.Kind.the-variants.{Mark, Setting, Reserved, Trip, Release, Limit, Last, Outside}
-use Rattle.page_judge.specs.Page.{swappedWord, judged}
+use Rattle.page_judge.specs.Page.{readBackwards, judged}
 use Rattle.page_judge.specs.Walk.{lowestFrom, lowestWord, orElse, faultsOf, starts, judged-is}
 use Rattle.page_judge.specs.Exactly.{refused-not}
 use Rattle.refusals.specs.declared.Verdict.{Verdict}
@@ -132,22 +132,23 @@ module _ (l : Layout) (room : tripWord (l .protections) ≤ l .last) (b : List �
 module _ (b : List ℕ) (e : judged b ≡ Accepted) where
   -- The layout of the page.
   abbrev own : Layout
-  own = shortLayout
+  own = layoutOf (length b)
 
   tests : Passed (eqb (length b) (bytesOf own)) (eqb (wordAt b 0) (own .mark)) (eqb (getD b (checkAt own) 0) (checkByte (take (checkAt own) b))) (faultsOf own b)
   tests =
-      passed (eqb (length b) (bytesOf own)) (eqb (wordAt b 0) (swappedWord (own .mark))) (eqb (wordAt b 0) (own .mark))
+      passed (eqb (length b) (bytesOf own)) (readBackwards (wordAt b 0)) (eqb (wordAt b 0) (own .mark))
       (eqb (getD b (checkAt own) 0) (checkByte (take (checkAt own) b))) (faultsOf own b) (sym (judged-is b) ∙ e)
 
-  pub accepted-length : length b ≡ bytesOf shortLayout
+  pub accepted-length : length b ≡ bytesOf (layoutOf (length b))
   accepted-length = eqb-true (length b) (bytesOf own) (tests .bytes)
 
-  pub accepted-mark : wordAt b 0 ≡ shortLayout .mark
+  pub accepted-mark : wordAt b 0 ≡ layoutOf (length b) .mark
   accepted-mark = eqb-true (wordAt b 0) (own .mark) (tests .mark)
 
   -- Words 1 to 8 are in their ranges.
   pub accepted-inside : (i : ℕ) → i < 16 → Inside (frontKind i) (wordAt b i)
-  accepted-inside = front-inside own (omega arith) b (tests .faults)
+  accepted-inside = front-inside own (has-room (length b)) b (tests .faults)
 
-  pub accepted-limits : (p : ℕ) → p < shortLayout .protections → Limited b p
-  accepted-limits = words-limited own (omega arith) b (tests .faults)
+  -- So are the words of each protection that a page of this length has.
+  pub accepted-limits : (p : ℕ) → p < layoutOf (length b) .protections → Limited b p
+  accepted-limits = words-limited own (has-room (length b)) b (tests .faults)

@@ -1,4 +1,4 @@
--- The page's refusals are given exactly as document 01's table says: each number if its row applies and no lower row does, with its
+-- The page's refusals are given exactly as the table says, for both lengths at once: each number if its row applies and no lower row does, with its
 -- lowest word at fault; the page is accepted if no row applies.
 -- Assumes nothing.
 use mathlib.Core.Path.{_≡_, refl, ap}
@@ -7,10 +7,11 @@ use mathlib.Core.List.{List}
 use mathlib.Core.Logic.{_↔_}
 use Prim.Native.Nat.{ℕ, zero, suc}
 use native.Mathlib.Nat.{le-refl}
+use lib.ListN.{length}
 use borrow.Author.Tests.{le-leb}
 use Rattle.laws.specs.Numbered.{listFrom}
 use Rattle.refusals.specs.Refusals.{Lowest, NoFault, wordsFrom, rowsFrom, none-exactly, refuse-exactly}
-use Rattle.page_faults.specs.Kinds.{shortLayout}
+use Rattle.page_faults.specs.Kinds.{layoutOf}
 use Rattle.page_faults.specs.declared.Layout.{Layout}
 use Rattle.page_judge.specs.Page.{rulesFrom, wordRules, refusalsOf, refusals, judged}
 use Rattle.refusals.specs.Answers.{answerOf}
@@ -30,7 +31,7 @@ rows-ordered l b =
 
 refusals-ordered : (b : List ℕ) → rowsFrom 1 (refusals b) ≡ true
 unfolding refusals
-refusals-ordered b = rows-ordered shortLayout b
+refusals-ordered b = rows-ordered (layoutOf (length b)) b
 
 pub refused-not : (k w : ℕ) → Refused k w ≡ Accepted → ⊥
 refused-not k w e = let z : true ≡ false = cc in true≢false z

@@ -1,4 +1,4 @@
--- To be believed: the refusal table 1 to 8 of a page.
+-- To be believed: the refusal table 1 to 8 of a page of either length.
 pub mod Page
 -- Each number is given exactly as its row says.
 pub mod Exactly
@@ -8,5 +8,7 @@ pub mod Swapped
 pub mod Accepted
 -- The table as the judge's code walks it.
 pub mod Walk
--- The page of document 01's replay example, and pages that differ from it in a few words.
+-- The page of document 01's replay example, a page of 160 bytes, and pages that differ from these in a few words.
 pub mod Worked
+-- Computed verdicts on pages of 160 bytes.
+mod Long

@@ -1,6 +1,6 @@
 -- The table as the judge walks it: for each row the lowest of the page's words that does not meet it.
 -- Assumes nothing.
-use mathlib.Core.Path.{_≡_, refl, ap, _∙_}
+use mathlib.Core.Path.{_≡_, refl, ap, ap₂, _∙_}
 use mathlib.Core.Bool.{Bool, true, false, not, cond}
 use mathlib.Core.List.{List, [], _∷_}
 use Prim.Native.Nat.{ℕ, zero, suc, _+_, _-_, _<_}
@@ -12,11 +12,11 @@ use Rattle.laws.specs.Numbered.{listFrom}
 use Rattle.laws.specs.Tests.{by-test}
 use Rattle.crc.specs.CheckByte.{checkByte}
 use Rattle.page_words.specs.Ranges.{wordAt}
-use Rattle.page_faults.specs.Kinds.{shortLayout, checkAt, bytesOf}
+use Rattle.page_faults.specs.Kinds.{layoutOf, checkAt, bytesOf, length-fits}
 use Rattle.page_faults.specs.Met.{meets}
 use Rattle.page_faults.specs.declared.Layout.{Layout}
 use Rattle.refusals.specs.Refusals.{Rule, firstRule, given, first-map}
-use Rattle.page_judge.specs.Page.{swappedWord, rulesFrom, wordRules, refusals, judged}
+use Rattle.page_judge.specs.Page.{readBackwards, rulesFrom, wordRules, refusals, judged}
 use Rattle.refusals.specs.Answers.{answerOf}
 use Rattle.refusals.specs.declared.Verdict.{Verdict}
 use Rattle.refusals.specs.declared.Verdict.the-variants.{Accepted, Refused}
@@ -41,7 +41,7 @@ faultsOf l b = orElse (lowestWord l 5 b) (orElse (lowestWord l 6 b) (orElse (low
 abbrev pub judgedAs : Layout → List ℕ → Verdict
 judgedAs l b =
     cond (eqb (length b) (bytesOf l))
-    (cond (eqb (wordAt b 0) (swappedWord (l .mark))) (Refused 2 0)
+    (cond (readBackwards (wordAt b 0)) (Refused 2 0)
     (cond (eqb (wordAt b 0) (l .mark))
     (cond (eqb (getD b (checkAt l) 0) (checkByte (take (checkAt l) b))) (faultsOf l b) (Refused 4 0))
     (Refused 3 0)))
@@ -75,11 +75,11 @@ first-else : (k : ℕ) (cs : List Rule) (v : Verdict) → firstRule Refused k cs
 first-else k [] v = refl
 first-else k (c ∷ cs) v = by-test (c .met) (λ t. rw t (first-else k cs v)) (λ t. rw t)
 
-head : (t1 t2 t3 t4 : Bool) {v w : Verdict} → v ≡ w
-    → cond t1 (cond (not t2) (cond t3 (cond t4 v (Refused 4 0)) (Refused 3 0)) (Refused 2 0)) (Refused 1 0)
+head : {t0 t1 : Bool} → t0 ≡ t1 → (t2 t3 t4 : Bool) {v w : Verdict} → v ≡ w
+    → cond t0 (cond (not t2) (cond t3 (cond t4 v (Refused 4 0)) (Refused 3 0)) (Refused 2 0)) (Refused 1 0)
     ≡ cond t1 (cond t2 (Refused 2 0) (cond t3 (cond t4 w (Refused 4 0)) (Refused 3 0))) (Refused 1 0)
-head t1 true t3 t4 e = refl
-head t1 false t3 t4 e = ap (λ (x : Verdict). cond t1 (cond t3 (cond t4 x (Refused 4 0)) (Refused 3 0)) (Refused 1 0)) e
+head z true t3 t4 e = ap (λ (t : Bool). cond t (Refused 2 0) (Refused 1 0)) z
+head z false t3 t4 e = ap₂ (λ (t : Bool) (x : Verdict). cond t (cond t3 (cond t4 x (Refused 4 0)) (Refused 3 0)) (Refused 1 0)) z e
 
 faults-are : (l : Layout) (b : List ℕ)
     → firstRule Refused 5 (wordRules l b 5)
@@ -99,15 +99,15 @@ faults-are l b =
     (first-else 7 (wordRules l b 7) eight))
 
 module _ (b : List ℕ) where
-  pub judged-is : judged b ≡ judgedAs shortLayout b
+  pub judged-is : judged b ≡ judgedAs (layoutOf (length b)) b
   unfolding judged refusals
   judged-is =
-      let l : Layout = shortLayout in
-      head (eqb (length b) (bytesOf l)) (eqb (wordAt b 0) (swappedWord (l .mark))) (eqb (wordAt b 0) (l .mark))
+      let l : Layout = layoutOf (length b) in
+      head (length-fits (length b)) (readBackwards (wordAt b 0)) (eqb (wordAt b 0) (l .mark))
       (eqb (getD b (checkAt l) 0) (checkByte (take (checkAt l) b))) (faults-are l b)
 
   -- By a layout that is the page's own.
-  pub judged-by : (l : Layout) → l ≡ shortLayout → judged b ≡ judgedAs l b
+  pub judged-by : (l : Layout) → l ≡ layoutOf (length b) → judged b ≡ judgedAs l b
   judged-by l e = rw e judged-is
 
   -- A verdict that is the table's has the table's number and word.

@@ -1,13 +1,13 @@
-// The settings page: the judge that gives document 01's refusals 1 to 8.
+// The settings page: the judge that gives refusals 1 to 8, for a page of 128 bytes and for one of 160.
 ghost use mathlib.Core.Path.{_≡_};
 ghost use Rattle.refusals.specs.Refusals.{given};
 ghost use Rattle.refusals.specs.Answers.{answerOf};
-ghost use Rattle.page_judge.specs.Page.{swappedWord, refusals, judged};
+ghost use Rattle.page_judge.specs.Page.{readBackwards, refusals, judged};
 ghost use Rattle.page_judge.specs.Walk.{orElse, lowestWord, faultsOf};
 use page_faults::Layout;
 use page_faults::check_at;
+use page_faults::layout_of;
 use page_faults::meets;
-use page_faults::short_layout;
 use page_words::word_at;
 use refusals::Verdict;
 use refusals::refused;
@@ -52,24 +52,24 @@ fn faults_of(page: &[u8], layout: Layout) -> Verdict
     or_else(lowest_word(page, layout, 5), six)
 }
 
-// A word with its two bytes exchanged.
-fn swapped_word(x: u16) -> u16
-    ensures { λ r. ⌜ r ≡ swappedWord x ⌝ }
+// Whether word 0 is one of the two marks read backwards.
+fn read_backwards(mark: u16) -> bool
+    ensures { λ r. ⌜ r ≡ readBackwards mark ⌝ }
 {
-    x / 256 + 256 * (x % 256)
+    mark == 0xA417 || mark == 0xA517
 }
 
 // The verdict on a page of any length. It reads the page and changes nothing.
 pub fn judge(page: &[u8]) -> Verdict
     ensures { λ r. ⌜ (r ≡ judged (now (page .entry))) × (answerOf r ≡ given (refusals (now (page .entry)))) ⌝ }
 {
-    let layout = short_layout();
+    let layout = layout_of(page.len());
     let end = check_at(layout);
     if page.len() != end + 1 {
         return refused(1);
     }
     let mark = word_at(page, 0);
-    if mark == swapped_word(layout.mark) {
+    if read_backwards(mark) {
         return refused(2);
     }
     if mark != layout.mark {

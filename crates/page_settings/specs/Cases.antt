@@ -1,4 +1,4 @@
--- What two pages say, and document 02's degrees, computed from the definitions.
+-- What three pages say, one of them of 160 bytes, and document 02's degrees, computed from the definitions.
 -- Assumes nothing.
 use mathlib.Core.Path.{_≡_, refl}
 use mathlib.Core.List.{List, [], _∷_}
@@ -17,7 +17,7 @@ use Rattle.page_words.specs.Ranges.{wordAt, within, degreesFit, levelFits, leve
 use Rattle.page_faults.specs.Kinds.{kindOf}
 use Rattle.page_faults.specs.Met.{levelMet, orderMet, onRow, kindMeets, meets}
 use Rattle.page_judge.specs.Page.{refusals, judged}
-use Rattle.page_judge.specs.Worked.{workedPage, unlikePage, minusWord}
+use Rattle.page_judge.specs.Worked.{workedPage, longPage, unlikePage, minusWord}
 use Rattle.refusals.specs.declared.Verdict.the-variants.{Accepted, Refused}
 use Rattle.page_settings.specs.declared.Rules.{Rules}
 use Rattle.page_settings.specs.declared.Settings.{Settings}
@@ -96,6 +96,31 @@ pub worked-loaded : loadedOf workedPage ≡ record { verdict = Accepted; setting
 unfolding loadedOf settingsOf rulesOf limitsOf limitsFor limitsFrom sampleLevel inDegrees levelOf signedOf judged refusals meets kindOf kindMeets onRow
     levelMet orderMet listOf listFrom wordAt within degreesFit levelFits rowAt table checkByte remainder withByte timesXs timesX
 worked-loaded = refl
+
+-- ---- a page of 160 bytes: 0 °C trips charge cold at 2731 tenths, and 5 °C releases it at 2782; -10 and -5 °C for discharge cold
+
+abbrev pub winter : Settings
+winter =
+    record {
+      rules = workedRules;
+      limits =
+          limits (pos 4250) (pos 4150) 2 3 1
+          ∷ limits (pos 2500) (pos 2600) 4 5 2
+          ∷ limits (pos 3000) (pos 2500) 6 7 1
+          ∷ limits (negsuc 4999) (negsuc 3999) 8 9 2
+          ∷ limits (negsuc 19999) (negsuc 99) 1 12 3
+          ∷ limits (pos 3182) (pos 3131) 10 11 1
+          ∷ limits (pos 3332) (pos 3281) 13 14 2
+          ∷ limits (pos 3532) (pos 3431) 15 16 3
+          ∷ limits (pos 2731) (pos 2782) 2 4 1
+          ∷ limits (pos 2631) (pos 2682) 3 6 2
+          ∷ [];
+    }
+
+pub winter-loaded : loadedOf longPage ≡ record { verdict = Accepted; settings = winter }
+unfolding loadedOf settingsOf rulesOf limitsOf limitsFor limitsFrom sampleLevel inDegrees levelOf signedOf judged refusals meets kindOf kindMeets onRow
+    levelMet orderMet listOf listFrom wordAt within degreesFit levelFits rowAt table checkByte remainder withByte timesXs timesX
+winter-loaded = refl
 
 -- ---- a page whose words are all unlike: each is read where it belongs
 

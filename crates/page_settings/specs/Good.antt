@@ -22,7 +22,8 @@ use Rattle.protections.specs.declared.Mode.the-variants.{Silent}
 use Rattle.protections.specs.declared.Quantity.{Quantity}
 use Rattle.protections.specs.declared.Quantity.the-variants.{HighestCell, LowestCell, Current, Temperature1, Temperature2}
 use Rattle.page_words.specs.Ranges.{wordAt, levelFits, levelOf}
-use Rattle.page_faults.specs.Kinds.{frontKind, tripWord, Inside}
+use Rattle.page_faults.specs.Kinds.{layoutOf, both, frontKind, tripWord, Inside}
+use Rattle.page_faults.specs.declared.Layout.{Layout}
 use Rattle.page_judge.specs.Page.{refusals, judged}
 use Rattle.page_judge.specs.Walk.{judged-answer}
 use Rattle.page_judge.specs.Accepted.{Limited, accepted-inside, accepted-limits}
@@ -86,14 +87,14 @@ limits-at b p h = listOf-at (limitsFor b) protections p noLimits h
 
 -- A page has the first eight protections at least, and no more than there are.
 least-protections : (b : List ℕ) → 8 ≤ pageProtections b
-least-protections b = omega arith
+least-protections b = both (λ (l : Layout). 8 ≤ l .protections) (omega arith) (omega arith) (length b)
 
 pub most-protections : (b : List ℕ) → pageProtections b ≤ protections
-most-protections b = omega arith
+most-protections b = both (λ (l : Layout). l .protections ≤ protections) (omega arith) (omega arith) (length b)
 
 -- A page of 128 bytes has eight.
 pub short-protections : (b : List ℕ) → length b ≡ 128 → pageProtections b ≡ 8
-short-protections b e = refl
+short-protections b e = ap (λ (n : ℕ). layoutOf n .protections) e
 
 -- Entry p of the array is what the page says of protection p,
 pub limits-own : (b : List ℕ) (p : ℕ) → p < pageProtections b → limitsAt (limitsOf b) p ≡ limitsFrom b p

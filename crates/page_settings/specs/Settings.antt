@@ -4,7 +4,7 @@ use mathlib.Core.Bool.{Bool, true, false, cond}
 use mathlib.Core.List.{List}
 use Prim.Native.Nat.{ℕ, _+_}
 use lib.Dec.{ltb}
-use lib.ListN.{replicate}
+use lib.ListN.{length, replicate}
 use lib.IntN.{ℤ, pos, negsuc, _+ℤ_, _*ℤ_}
 use Rattle.laws.specs.Numbered.{listOf}
 use Rattle.units.specs.Levels.{level}
@@ -18,7 +18,7 @@ use Rattle.protections.specs.declared.Direction.the-variants.{Above, Below}
 use Rattle.protections.specs.declared.Quantity.{Quantity}
 use Rattle.protections.specs.declared.Quantity.the-variants.{HighestCell, LowestCell, Current, Temperature1, Temperature2}
 use Rattle.page_words.specs.Ranges.{wordAt, levelOf}
-use Rattle.page_faults.specs.Kinds.{shortLayout, tripWord}
+use Rattle.page_faults.specs.Kinds.{layoutOf, tripWord}
 use Rattle.page_judge.specs.Page.{judged}
 use Rattle.refusals.specs.declared.Verdict.{Verdict}
 use Rattle.refusals.specs.declared.Verdict.the-variants.{Accepted, Refused}
@@ -60,9 +60,9 @@ limitsFrom b p =
       mask = wordAt b (at + 4);
     }
 
--- How many protections the page b has: those from 0 on.
+-- How many protections the page b has, by its length: those from 0 on.
 abbrev pub pageProtections : List ℕ → ℕ
-pageProtections b = shortLayout .protections
+pageProtections b = layoutOf (length b) .protections
 
 -- What stands for a protection that a page does not have: no temperature is below 0 tenths of a kelvin.
 abbrev pub absent : Limits

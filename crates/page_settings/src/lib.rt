@@ -9,7 +9,7 @@ ghost use Rattle.refusals.specs.Refusals.{given};
 ghost use Rattle.refusals.specs.Answers.{answerOf};
 ghost use Rattle.refusals.specs.declared.Verdict.the-variants.{Accepted};
 ghost use Rattle.page_settings.specs.Settings.{inDegrees, sampleLevel, limitsFrom, pageProtections, absent, limitsFor, limitsOf, rulesOf, settingsOf, noSettings, loadedOf};
-use page_faults::short_layout;
+use page_faults::layout_of;
 use page_faults::trip_word;
 use page_words::level_of;
 use page_words::word_at;
@@ -91,11 +91,11 @@ fn small(page: &[u8], i: u16) -> u8
     word_at(page, i) as u8
 }
 
-// How many protections the page has: those from 0 on.
+// How many protections the page has, by its length: those from 0 on.
 fn page_protections(page: &[u8]) -> u8
     ensures { λ r. ⌜ r ≡ pageProtections (now (page .entry)) ⌝ }
 {
-    let layout = short_layout();
+    let layout = layout_of(page.len());
     layout.protections
 }
 

@@ -15,7 +15,8 @@ pub extern "C" fn keeper_check_byte(bytes: &[u8]) -> u32
     check_byte(bytes) as u32
 }
 
-// uint32_t keeper_judge_page(const uint8_t *page, size_t length): 0 for an accepted page, else refusal number × 256 + word.
+// uint32_t keeper_judge_page(const uint8_t *page, size_t length): 0 for an accepted page, else refusal number × 256 + word. A page of 160
+// bytes has words up to 79.
 #[no_mangle]
 pub extern "C" fn keeper_judge_page(page: &[u8]) -> u32
     ensures { λ r. ⌜ r ≡ numbered (judged (now (page .entry))) ⌝ }

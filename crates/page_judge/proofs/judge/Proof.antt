@@ -8,8 +8,8 @@ use borrow.Author.Needs.{needs}
 use Rattle.page_judge.proofs.judge.Statement.{statement}
 use Rattle.page_judge.proofs.judge.Tie as tie
 
-short-layout-requires : tie.Need-short-layout-requires
-short-layout-requires c κs = search needs
+layout-of-requires : tie.Need-layout-of-requires
+layout-of-requires c κs = search needs
 
 check-at-requires : tie.Need-check-at-requires
 check-at-requires c κs = search needs
@@ -25,7 +25,7 @@ returns c =
     let one = c .before .before in
     judged-answer _ _
     (rw (
-      judged-by _ _ (one .before .short-layout .ensures),
+      judged-by _ _ (one .before .layout-of .ensures),
       ← one .check-at .ensures,
       ne-eqb _ _ (c .before .if1 .taken),
     )
@@ -34,8 +34,8 @@ returns c =
 word-at-requires : tie.Need-word-at-requires
 word-at-requires c κs = search needs
 
-swapped-word-requires : tie.Need-swapped-word-requires
-swapped-word-requires c κs = search needs
+read-backwards-requires : tie.Need-read-backwards-requires
+read-backwards-requires c κs = search needs
 
 refused-requires-2 : tie.Need-refused-requires-2
 refused-requires-2 c κs = search needs
@@ -46,12 +46,12 @@ returns-2 c =
     let one = two .before .before .before in
     judged-answer _ _
     (rw (
-      judged-by _ _ (one .before .short-layout .ensures),
+      judged-by _ _ (one .before .layout-of .ensures),
       ← one .check-at .ensures,
       eq-eqb _ _ (two .before .before .if1 .left),
       ← two .before .word-at .ensures,
-      ← two .swapped-word .ensures,
-      eq-eqb _ _ (c .before .if2 .taken),
+      ← two .read-backwards .ensures,
+      c .before .if2 .taken,
     )
     (c .refused2 .ensures))
 
@@ -65,12 +65,12 @@ returns-3 c =
     let one = two .before .before .before in
     judged-answer _ _
     (rw (
-      judged-by _ _ (one .before .short-layout .ensures),
+      judged-by _ _ (one .before .layout-of .ensures),
       ← one .check-at .ensures,
       eq-eqb _ _ (two .before .before .if1 .left),
       ← two .before .word-at .ensures,
-      ← two .swapped-word .ensures,
-      ne-eqb _ _ (three .before .if2 .left),
+      ← two .read-backwards .ensures,
+      three .before .if2 .left,
       ne-eqb _ _ (c .before .if3 .taken),
     )
     (c .refused3 .ensures))
@@ -95,12 +95,12 @@ returns-4 c =
     let one = two .before .before .before in
     judged-answer _ _
     (rw (
-      judged-by _ _ (one .before .short-layout .ensures),
+      judged-by _ _ (one .before .layout-of .ensures),
       ← one .check-at .ensures,
       eq-eqb _ _ (two .before .before .if1 .left),
       ← two .before .word-at .ensures,
-      ← two .swapped-word .ensures,
-      ne-eqb _ _ (three .before .if2 .left),
+      ← two .read-backwards .ensures,
+      three .before .if2 .left,
       eq-eqb _ _ (four .before .before .before .if3 .left),
       ne-eqb _ _ (λ z. c .before .if4 .taken (z ∙ sym (four .check-byte .ensures))),
     )
@@ -117,12 +117,12 @@ returns-5 c =
     let one = two .before .before .before in
     judged-answer _ _
     (rw (
-      judged-by _ _ (one .before .short-layout .ensures),
+      judged-by _ _ (one .before .layout-of .ensures),
       ← one .check-at .ensures,
       eq-eqb _ _ (two .before .before .if1 .left),
       ← two .before .word-at .ensures,
-      ← two .swapped-word .ensures,
-      ne-eqb _ _ (three .before .if2 .left),
+      ← two .read-backwards .ensures,
+      three .before .if2 .left,
       eq-eqb _ _ (four .before .before .before .if3 .left),
       eq-eqb _ _ (c .before .if4 .left ∙ four .check-byte .ensures),
     )
@@ -132,13 +132,13 @@ pub judge-spec : {M : Type 1} → statement M
 judge-spec =
     tie.close
     (tie.spec
-    short-layout-requires
+    layout-of-requires
     check-at-requires
     add-if1
     refused-requires
     returns
     word-at-requires
-    swapped-word-requires
+    read-backwards-requires
     refused-requires-2
     returns-2
     refused-requires-3
