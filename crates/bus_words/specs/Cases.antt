@@ -46,8 +46,8 @@ pub status-bits
 unfolding statusWord heatRaised
 status-bits = refl
 
--- Protections 1 to 4 have no bit of their own.
-pub status-others : map (λ p. statusWord (eqb p) none true) (1 ∷ 2 ∷ 3 ∷ 4 ∷ []) ≡ replicate 4 0x0080
+-- Protections 1 to 4 have no bit of their own, nor have 8 and 9.
+pub status-others : map (λ p. statusWord (eqb p) none true) (1 ∷ 2 ∷ 3 ∷ 4 ∷ 8 ∷ 9 ∷ []) ≡ replicate 6 0x0080
 unfolding statusWord heatRaised
 status-others = refl
 
@@ -65,6 +65,8 @@ never =
     ∷ limited (pos 3930) (pos 3000) 1 1 3
     ∷ limited (pos 3930) (pos 3000) 1 1 3
     ∷ limited (pos 3930) (pos 3000) 1 1 3
+    ∷ limited (pos 2331) (pos 2432) 1 1 3
+    ∷ limited (pos 2331) (pos 2432) 1 1 3
     ∷ []
 
 abbrev rules-with : ℕ → ℕ → Rules
@@ -135,7 +137,7 @@ unfolding wordAfter rowOfCommand table sentWord packWord withSwitches withBitIf 
     bestOf
 follows-commands = refl
 
--- ---- protections by themselves and together, N and M 1: 0 and 5 block charge, 1, 3 and 6 discharge, 4 both, 2 and 7 only report
+-- ---- protections by themselves and together, N and M 1: 0, 5 and 8 block charge, 1, 3, 6 and 9 discharge, 4 both, 2 and 7 only report
 
 abbrev each : Settings
 each =
@@ -148,6 +150,8 @@ each =
     ∷ limited (pos 3230) (pos 3130) 1 1 1
     ∷ limited (pos 3330) (pos 3230) 1 1 2
     ∷ limited (pos 3330) (pos 3230) 1 1 0
+    ∷ limited (pos 2731) (pos 2832) 1 1 1
+    ∷ limited (pos 2631) (pos 2732) 1 1 2
     ∷ [])
 
 -- Status, mode, raised and switches, charging current.
@@ -166,6 +170,10 @@ pub by-themselves
     ∷ seen (pos 100) 3330 2980 4000
     ∷ seen (pos 100) 2980 3330 4000
     ∷ seen (pos 900) 3330 3330 4250
+    ∷ seen (pos 100) 2732 2980 4000
+    ∷ seen (pos 100) 2731 2980 4000
+    ∷ seen (pos 100) 2631 2980 4000
+    ∷ seen (pos 900) 2631 3330 4250
     ∷ [])
     ≡ ((0x0080 ∷ 0x03 ∷ 0x0300 ∷ 1500 ∷ [])
     ∷ (0x00C0 ∷ 0x02 ∷ 0x0300 ∷ 1500 ∷ [])
@@ -178,6 +186,10 @@ pub by-themselves
     ∷ (0x5880 ∷ 0x11 ∷ 0x0060 ∷ 0 ∷ [])
     ∷ (0x1080 ∷ 0x16 ∷ 0x0380 ∷ 1500 ∷ [])
     ∷ (0xD880 ∷ 0x12 ∷ 0x00E5 ∷ 0 ∷ [])
+    ∷ (0x0080 ∷ 0x03 ∷ 0x0300 ∷ 1500 ∷ [])
+    ∷ (0x4080 ∷ 0x03 ∷ 0x0600 ∷ 0 ∷ [])
+    ∷ (0x4880 ∷ 0x03 ∷ 0x0C00 ∷ 0 ∷ [])
+    ∷ (0xD880 ∷ 0x12 ∷ 0x0C85 ∷ 0 ∷ [])
     ∷ [])
 unfolding wordAfter rowOfCommand table sentWord packWord statusWord heatRaised withSwitches withBitIf withBit hasBit wordOf pastOf withEvent
     sampleVerdict sampleRefusals within cellsFit trimmed eachTo keptCell commandVerdict commandRefusals modeAfter firstMode modeOrder

@@ -4,13 +4,16 @@
 use mathlib.Core.Path.{_≡_, refl, ap, _∙_}
 use mathlib.Core.Bool.{Bool, true, false}
 use mathlib.Core.List.{List}
-use Prim.Native.Nat.{ℕ, zero, suc, _%_, _/_, _≤_, _<_}
+use Prim.Native.Nat.{ℕ, zero, suc, _-_, _%_, _/_, _≤_, _<_}
 use native.Mathlib.Omega.{arith}
 use lib.Count.{ones}
 use lib.Dec.{lit<}
+use borrow.Author.Tests.{lt-ltb, le-ltb}
+use Rattle.laws.specs.Tests.{by-order}
 use Rattle.laws.specs.Bits.{hasBit, withBit, withBitIf}
 use Rattle.units.specs.declared.MilliVolts.{MilliVolts}
 use Rattle.units.specs.Cells.{tenAtMost, ten-most}
+use Rattle.laws.specs.Words.{bits-same, bits-has, bits-past}
 use Rattle.units.specs.Signed.{wordOf, word-signed}
 use Rattle.protections.specs.Table.{protections}
 use Rattle.page_words.specs.Ranges.{wordAt}
@@ -37,12 +40,12 @@ use Rattle.bus_table.specs.declared.Sends.the-variants.{Nothing, Cell, Whole}
 use Rattle.bus_table.specs.declared.PackWord.{PackWord}
 use Rattle.bus_table.specs.declared.PackWord.the-variants.{Temperature1, Temperature2, Sum, Current, ChargingCurrent, ChargingVoltage, Status, Mode, Raised, Bled, Outermost}
 use Rattle.bus_table.specs.Table.{table, rowOfCommand}
-use Rattle.bus_words.specs.Words.{heatRaised, statusWord, statusOf, withSwitches, numbersWord, packWord, sentWord, saidAfter, wordAfter, saidOf}
+use Rattle.bus_words.specs.Words.{heatRaised, statusWord, statusOf, raisedOrOn, withSwitches, numbersWord, packWord, sentWord, saidAfter, wordAfter, saidOf}
 
 -- ---- the words
 
 -- The two bits of the switches' word.
-pub switch-bits : (on : ℕ → Bool) → (hasBit (switchesWord on) 0 ≡ on 0) × (hasBit (switchesWord on) 1 ≡ on 1)
+switch-bits : (on : ℕ → Bool) → (hasBit (switchesWord on) 0 ≡ on 0) × (hasBit (switchesWord on) 1 ≡ on 1)
 unfolding hasBit withBitIf withBit
 switch-bits on = bits (on 0) (on 1)
   where
@@ -64,6 +67,30 @@ found-ten cells count = few (tenAtMost count) (ten-most count)
         let b = lowest-number cells (suc k) (omega arith) .1 in
         (omega arith, omega arith)
 
+pub own-bit : (on : ℕ → Bool) (switch : ℕ) → switch < 2 → hasBit (switchesWord on) switch ≡ on switch
+own-bit on zero h = switch-bits on .0
+own-bit on (suc zero) h = switch-bits on .1
+own-bit on (suc (suc i)) h = absurd (omega arith)
+
+-- The bits of 0x45, one by one: raised p below 8, the two switches, and raised 8 and 9; there are no others.
+module _ (raised on : ℕ → Bool) where
+  bit-is : (i : ℕ) → i < 12 → hasBit (withSwitches raised on) i ≡ raisedOrOn raised on i
+  unfolding withSwitches
+  bit-is i h = bits-has (raisedOrOn raised on) 12 i (omega arith) h
+
+  pub bit-raised : (p : ℕ) → p < 8 → hasBit (withSwitches raised on) p ≡ raised p
+  bit-raised p h = bit-is p (omega arith) ∙ rw (lt-ltb p 8 h)
+
+  pub bit-on : (hasBit (withSwitches raised on) 8 ≡ on 0) × (hasBit (withSwitches raised on) 9 ≡ on 1)
+  bit-on = (bit-is 8 (lit< tt), bit-is 9 (lit< tt))
+
+  pub bit-cold : (hasBit (withSwitches raised on) 10 ≡ raised 8) × (hasBit (withSwitches raised on) 11 ≡ raised 9)
+  bit-cold = (bit-is 10 (lit< tt), bit-is 11 (lit< tt))
+
+  pub bit-none : (i : ℕ) → 12 ≤ i → hasBit (withSwitches raised on) i ≡ false
+  unfolding withSwitches
+  bit-none i h = bits-past (raisedOrOn raised on) 12 i h
+
 module _ (page : Settings) (p : Past) where
   abbrev state : Pack
   state = stateAfter page p
@@ -75,10 +102,18 @@ module _ (page : Settings) (p : Past) where
   unfolding stateAfter
   blocks-at switch = blocksAny-is (page .limits) (p .history) switch
 
-  on-at : (saidOf state .on 0 ≡ switchAfter page p 0) × (saidOf state .on 1 ≡ switchAfter page p 1)
-  on-at =
-      let bits = switch-bits (switchAfter page p) in
-      (ap (λ (w : ℕ). hasBit w 0) (switches-is page p) ∙ bits .0, ap (λ (w : ℕ). hasBit w 1) (switches-is page p) ∙ bits .1)
+  on-at : (switch : ℕ) → switch < 2 → saidOf state .on switch ≡ switchAfter page p switch
+  on-at switch h = ap (λ (w : ℕ). hasBit w switch) (switches-is page p) ∙ own-bit (switchAfter page p) switch h
+
+  -- Each bit of 0x45 is what the page and the past say.
+  bit-at : (i : ℕ) → i < 12
+      → raisedOrOn (saidOf state .raised) (saidOf state .on) i ≡ raisedOrOn (saidAfter page p .raised) (saidAfter page p .on) i
+  bit-at i h =
+      by-order i 8
+      (λ a. rw (lt-ltb i 8 a) (raised-at i (omega arith)))
+      (λ a. rw (le-ltb i 8 a) (by-order i 10
+      (λ b. rw (lt-ltb i 10 b) (on-at (i - 8) (omega arith)))
+      (λ b. rw (le-ltb i 10 b) (raised-at (i - 2) (omega arith)))))
 
   status-is : statusOf (saidOf state) ≡ statusOf (saidAfter page p)
   unfolding statusWord heatRaised stateAfter
@@ -102,7 +137,7 @@ module _ (page : Settings) (p : Past) where
   pack-word-is ChargingVoltage = rw (blocks-at 0)
   pack-word-is Status = status-is
   pack-word-is Mode = mode-is page p
-  pack-word-is Raised = rw (raised-is page p, on-at .0, on-at .1)
+  pack-word-is Raised = bits-same (raisedOrOn (saidOf state .raised) (saidOf state .on)) (raisedOrOn (saidAfter page p .raised) (saidAfter page p .on)) 12 bit-at
   pack-word-is Bled = refl
   pack-word-is Outermost = refl
 

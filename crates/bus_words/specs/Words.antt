@@ -8,17 +8,18 @@ use native.Mathlib.Numerals.{add-one}
 use native.Mathlib.Omega.{arith}
 use borrow.Author.Tests.{le-leb, lt-leb}
 use lib.Bits.{bitOr}
-use lib.Dec.{leb}
+use lib.Dec.{leb, ltb}
 use lib.IntN.{ℤ}
 use lib.ListN.{getD}
 use Rattle.laws.specs.Bits.{hasBit, withBit, withBitIf}
+use Rattle.laws.specs.Words.{bitsOf}
 use Rattle.units.specs.declared.MilliVolts.{MilliVolts}
 use Rattle.units.specs.Signed.{wordOf}
 use Rattle.sample.specs.declared.Sample.{Sample}
 use Rattle.sample.specs.declared.Extremes.{Extremes}
 use Rattle.units.specs.Cells.{tenAtMost}
 use Rattle.sample.specs.Cells.{noVolts, extremesOf}
-use Rattle.guard_raised.specs.Words.{raisedAfter, raisedWordAfter, raisedWord, blocksAfter, blocksAny}
+use Rattle.guard_raised.specs.Words.{raisedAfter, raisedWord, blocksAfter, blocksAny}
 use Rattle.bleed_wants.specs.Wants.{isCharging}
 use Rattle.page_settings.specs.declared.Settings.{Settings}
 use Rattle.pack_state.specs.declared.Pack.{Pack}
@@ -42,9 +43,8 @@ pub record Said : Type 0 where
   pub latest : Sample
   pub mode : ℕ
   pub bled : ℕ
-  -- whether protection p is raised, their word, and whether a raised one blocks a switch: 0 is charge, 1 is discharge
+  -- whether protection p is raised, and whether a raised one blocks a switch: 0 is charge, 1 is discharge
   pub raised : ℕ → Bool
-  pub raisedWord : ℕ
   pub blocks : ℕ → Bool
   -- whether a switch is on
   pub on : ℕ → Bool
@@ -98,16 +98,20 @@ statusWord raised blocks charges =
     ∷ bit 0x0040 (not charges)
     ∷ [])
 
--- "Bit p for raised p; bit 8 charge switch on, bit 9 discharge switch on."
-unfoldable pub withSwitches : ℕ → (ℕ → Bool) → ℕ
-withSwitches raised on = withBitIf (on 1) (withBitIf (on 0) raised 8) 9
+-- What bit i of 0x45 says. "Bit p for raised p; bit 8 charge switch on, bit 9 discharge switch on"; of 8 and 9, "in 0x45 they are bits 10
+-- and 11".
+abbrev pub raisedOrOn : (ℕ → Bool) → (ℕ → Bool) → ℕ → Bool
+raisedOrOn raised on i = cond (ltb i 8) (raised i) (cond (ltb i 10) (on (i - 8)) (raised (i - 2)))
+
+unfoldable pub withSwitches : (ℕ → Bool) → (ℕ → Bool) → ℕ
+withSwitches raised on = bitsOf (raisedOrOn raised on) 12
 
 module _ (x : Said) where
   abbrev pub statusOf : ℕ
   statusOf = statusWord (x .raised) (x .blocks) (isCharging (x .detection) (x .latest .current))
 
   abbrev pub raisedAndSwitches : ℕ
-  raisedAndSwitches = withSwitches (x .raisedWord) (x .on)
+  raisedAndSwitches = withSwitches (x .raised) (x .on)
 
   -- "Both 0 if a raised protection blocks charge."
   abbrev unlessBlocked : ℕ → ℕ
@@ -147,7 +151,6 @@ saidAfter page p =
       mode = modeAfter page (p .history);
       bled = bledAfter page (p .history);
       raised = raisedAfter (page .limits) (p .history);
-      raisedWord = raisedWordAfter (page .limits) (p .history);
       blocks = blocksAfter (page .limits) (p .history);
       on = switchAfter page p;
     }
@@ -169,7 +172,6 @@ saidOf p =
       mode = modeOf p;
       bled = p .balance .bled;
       raised = hasBit (raisedWord (p .protections));
-      raisedWord = raisedWord (p .protections);
       blocks = λ switch. blocksAny switch (p .protections);
       on = hasBit (switchesOf p);
     }

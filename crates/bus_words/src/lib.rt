@@ -7,7 +7,7 @@ ghost use Rattle.units.specs.Cells.{tenAtMost};
 ghost use Rattle.sample.specs.Cells.{extremesOf};
 ghost use Rattle.guard_raised.specs.Words.{blocksAny};
 ghost use Rattle.pack.specs.Kept.{Kept};
-ghost use Rattle.bus_words.specs.Words.{sumTo, sumWord, numbersWord, cellWord, heatRaised, packWord, sentWord, saidOf, statusOf, raisedAndSwitches, Bounded};
+ghost use Rattle.bus_words.specs.Words.{sumTo, sumWord, numbersWord, cellWord, heatRaised, packWord, sentWord, saidOf, statusOf, raisedOrOn, raisedAndSwitches, Bounded};
 use bleed_wants::is_charging;
 use bus_table::PackWord;
 use bus_table::Sends;
@@ -126,6 +126,19 @@ fn status(p: Pack) -> u16
     with_bit_if(w14, 15, has_bit(raised, 0))
 }
 
+// Bit i of 0x45: raised 0 to 7, the two switches, raised 8 and 9.
+fn raised_or_on(raised: u16, on: u16, i: u8) -> bool
+    ensures { λ r. ⌜ r ≡ raisedOrOn (hasBit raised) (hasBit on) i ⌝ }
+{
+    if i < 8 {
+        return has_bit(raised, i);
+    }
+    if i < 10 {
+        return has_bit(on, i - 8);
+    }
+    has_bit(raised, i - 2)
+}
+
 // The raised protections, and the switches that are on.
 fn raised_and_switches(p: Pack) -> u16
     ensures { λ r. ⌜ r ≡ raisedAndSwitches (saidOf p) ⌝ }
@@ -133,8 +146,13 @@ fn raised_and_switches(p: Pack) -> u16
     let ps = p.protections;
     let raised = raised_word(ps);
     let on = switches(p);
-    let w8 = with_bit_if(raised, 8, has_bit(on, 0));
-    with_bit_if(w8, 9, has_bit(on, 1))
+    let mut w: u16 = 0;
+    let mut i: u8 = 0;
+    while i < 12 {
+        w = with_bit_if(w, i, raised_or_on(raised, on, i));
+        i += 1;
+    }
+    w
 }
 
 // A word of the whole pack.

@@ -67,6 +67,11 @@ module _ {S : Type 0} (N M : ℕ) (trips qualifies : S → Bool) where
   pub alarm-raised : (h : List S) → isRaised (alarmAfter h) ≡ ruleRaisedAfter h
   alarm-raised h = by-test (ruleRaisedAfter h) (λ e. rw e) (λ e. rw e)
 
+  -- What no sample trips is never raised.
+  pub never-raised : 1 ≤ N → ((s : S) → trips s ≡ false) → (h : List S) → ruleRaisedAfter h ≡ false
+  never-raised n-least none [] = refl
+  never-raised n-least none (s ∷ h) = rw (never-raised n-least none h, lastAll-run, none s, lt-leb N 0 n-least)
+
   alarm-none : (h : List S) → run trips h ≡ 0 → run qualifies h ≡ 0 → alarmRunOf (alarmAfter h) ≡ 0
   alarm-none h t q = by-test (ruleRaisedAfter h) (λ e. rw e q) (λ e. rw e t)
 

@@ -47,6 +47,11 @@ pub released-when : (row : Row) (l : Limits) (s : Sample) (h : List Sample) → 
 unfolding raised
 released-when row l s h e = rw e
 
+-- One whose trip level no sample reaches is never raised.
+pub raised-never : (row : Row) (l : Limits) → 1 ≤ l .n → ((s : Sample) → trips row l s ≡ false) → (h : List Sample) → raised row l h ≡ false
+unfolding raised
+raised-never row l = runs.never-raised (l .n) (l .m) (trips row l) (qualifies row l)
+
 -- The protection after a history: its limits, and its alarm with its run.
 unfoldable pub protectionAfter : Row → Limits → List Sample → Protection
 protectionAfter row l h = record { limits = l; alarm = runs.alarmAfter (l .n) (l .m) (trips row l) (qualifies row l) h }

@@ -1,14 +1,14 @@
 -- The word of raised protections, and which switches the raised ones block.
 -- Assumes nothing.
 use mathlib.Core.Path.{_≡_, ap₂}
-use mathlib.Core.Bool.{Bool, not, _&&_}
+use mathlib.Core.Bool.{Bool, false, not, _&&_}
 use mathlib.Core.List.{List}
-use Prim.Native.Nat.{ℕ, _<_}
+use Prim.Native.Nat.{ℕ, _≤_, _<_}
 use native.Mathlib.Omega.{arith}
 use lib.Dec.{eqb}
 use lib.ListN.{getD}
 use Rattle.laws.specs.Bits.{hasBit}
-use Rattle.laws.specs.Words.{bitsOf, anyOf, bits-same, any-same, bits-has, any-bits}
+use Rattle.laws.specs.Words.{bitsOf, anyOf, bits-same, any-same, bits-short, any-short, bits-has, any-bits}
 use Rattle.protections.specs.declared.Limits.{Limits}
 use Rattle.protections.specs.Limits.{limitsAt}
 use Rattle.protections.specs.Table.{rowAt, protections}
@@ -66,6 +66,23 @@ module _ (ls : List Limits) (h : List Sample) where
   pub anyRaisedAfter-word : anyRaisedAfter ls h ≡ not (eqb (raisedWordAfter ls h) 0)
   unfolding anyRaisedAfter raisedWordAfter
   anyRaisedAfter-word = any-bits (raisedAfter ls h) protections (omega arith)
+
+-- ---- the words over the first P protections, where none from P on is raised
+
+module _ (ls : List Limits) (h : List Sample) (P : ℕ) (most : P ≤ protections)
+    (none : (p : ℕ) → P ≤ p → p < protections → raisedAfter ls h p ≡ false) where
+  pub raisedWordAfter-short : raisedWordAfter ls h ≡ bitsOf (raisedAfter ls h) P
+  unfolding raisedWordAfter
+  raisedWordAfter-short = bits-short (raisedAfter ls h) P protections most none
+
+  pub anyRaisedAfter-short : anyRaisedAfter ls h ≡ anyOf (raisedAfter ls h) P
+  unfolding anyRaisedAfter
+  anyRaisedAfter-short = any-short (raisedAfter ls h) P protections most none
+
+  pub blocksAfter-short : (switch : ℕ) → blocksAfter ls h switch ≡ anyOf (λ p. raisedAfter ls h p && hasBit (limitsAt ls p .mask) switch) P
+  unfolding blocksAfter
+  blocksAfter-short switch =
+      any-short (λ p. raisedAfter ls h p && hasBit (limitsAt ls p .mask) switch) P protections most (λ p past inside. rw (none p past inside))
 
 -- ---- the array that stands for a history says what the history says
 

@@ -64,6 +64,29 @@ bits-same f g zero same = refl
 bits-same f g (suc n) same =
     ap₂ (λ (b : Bool) (w : ℕ). withBitIf b w n) (same n (omega arith)) (bits-same f g n (λ i h. same i (omega arith)))
 
+-- Where the test picks nothing from k on, the first k are all that counts.
+pub any-short : (test : ℕ → Bool) (k n : ℕ) → k ≤ n → ((i : ℕ) → k ≤ i → i < n → test i ≡ false) → anyOf test n ≡ anyOf test k
+unfolding anyOf
+any-short test k zero h none = let e : k ≡ 0 = omega arith in rw e
+any-short test k (suc n) h none =
+    ⊎-elim
+    (λ (e : k ≡ suc n). rw e)
+    (λ (q : k < suc n). rw (none n (le-of-suc-le-suc q) (omega arith)) (or-none (anyOf test n) ∙ any-short test k n (le-of-suc-le-suc q) (λ i a b. none i a (omega arith))))
+    (eq-or-lt-of-le h)
+  where
+    or-none : (a : Bool) → a || false ≡ a
+    or-none true = refl
+    or-none false = refl
+
+pub bits-short : (test : ℕ → Bool) (k n : ℕ) → k ≤ n → ((i : ℕ) → k ≤ i → i < n → test i ≡ false) → bitsOf test n ≡ bitsOf test k
+unfolding bitsOf withBitIf
+bits-short test k zero h none = let e : k ≡ 0 = omega arith in rw e
+bits-short test k (suc n) h none =
+    ⊎-elim
+    (λ (e : k ≡ suc n). rw e)
+    (λ (q : k < suc n). rw (none n (le-of-suc-le-suc q) (omega arith)) (bits-short test k n (le-of-suc-le-suc q) (λ i a b. none i a (omega arith))))
+    (eq-or-lt-of-le h)
+
 -- A test that only the numbers below n can pass makes the word of those.
 pub bits-within : (m n : ℕ) (test : ℕ → Bool) → bitsOf (λ i. ltb i n && test i) m ≡ bitsOf test (cond (ltb n m) n m)
 unfolding bitsOf withBitIf

@@ -60,6 +60,8 @@ page r =
           ∷ limited (pos 3180) (pos 3130) 2 3 1
           ∷ limited (pos 3330) (pos 3280) 2 3 2
           ∷ limited (pos 3330) (pos 3280) 2 3 3
+          ∷ limited (pos 2731) (pos 2782) 2 3 1
+          ∷ limited (pos 2531) (pos 2582) 2 3 2
           ∷ [];
     }
 
@@ -144,6 +146,8 @@ reporting =
           ∷ limited (pos 3180) (pos 3130) 2 3 1
           ∷ limited (pos 3330) (pos 3280) 2 3 2
           ∷ limited (pos 3330) (pos 3280) 2 3 3
+          ∷ limited (pos 2731) (pos 2782) 2 3 1
+          ∷ limited (pos 2531) (pos 2582) 2 3 2
           ∷ [];
     }
 

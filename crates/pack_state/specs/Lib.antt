@@ -4,5 +4,7 @@ pub mod Past
 pub mod State
 -- The step leads from the state of a past to the state of the longer past; what the state keeps that no output shows.
 pub mod Steps
+-- A protection that the page does not have is never raised.
+pub mod Absent
 -- Computed cases: the tick, the starred seven samples with the start cell, who rests and who is bled at each, and a protection of mask 0 that stops bleeding.
 pub mod Cases

@@ -1,4 +1,4 @@
--- What two pages say, and document 02's degrees, computed from the definitions.
+-- What three pages say, one of them of 160 bytes, and document 02's degrees, computed from the definitions.
 -- Assumes nothing.
 use mathlib.Core.Path.{_≡_, refl}
 use mathlib.Core.List.{List, [], _∷_}
@@ -17,11 +17,11 @@ use Rattle.page_words.specs.Ranges.{wordAt, within, degreesFit, levelFits, leve
 use Rattle.page_faults.specs.Kinds.{kindOf}
 use Rattle.page_faults.specs.Met.{levelMet, orderMet, onRow, kindMeets, meets}
 use Rattle.page_judge.specs.Page.{refusals, judged}
-use Rattle.page_judge.specs.Worked.{workedPage, unlikePage, minusWord}
+use Rattle.page_judge.specs.Worked.{workedPage, longPage, unlikePage, minusWord}
 use Rattle.refusals.specs.declared.Verdict.the-variants.{Accepted, Refused}
 use Rattle.page_settings.specs.declared.Rules.{Rules}
 use Rattle.page_settings.specs.declared.Settings.{Settings}
-use Rattle.page_settings.specs.Settings.{inDegrees, sampleLevel, limitsFrom, limitsOf, rulesOf, settingsOf, noSettings, loadedOf}
+use Rattle.page_settings.specs.Settings.{inDegrees, sampleLevel, limitsFrom, limitsFor, limitsOf, rulesOf, settingsOf, noSettings, loadedOf}
 
 -- ---- levels
 
@@ -87,13 +87,40 @@ worked =
           ∷ limits (pos 3182) (pos 3131) 2 2 1
           ∷ limits (pos 3332) (pos 3281) 2 2 2
           ∷ limits (pos 3532) (pos 3431) 2 2 3
+          ∷ limits (negsuc 0) (pos 0) 1 1 0
+          ∷ limits (negsuc 0) (pos 0) 1 1 0
           ∷ [];
     }
 
 pub worked-loaded : loadedOf workedPage ≡ record { verdict = Accepted; settings = worked }
-unfolding loadedOf settingsOf rulesOf limitsOf limitsFrom sampleLevel inDegrees levelOf signedOf judged refusals meets kindOf kindMeets onRow
+unfolding loadedOf settingsOf rulesOf limitsOf limitsFor limitsFrom sampleLevel inDegrees levelOf signedOf judged refusals meets kindOf kindMeets onRow
     levelMet orderMet listOf listFrom wordAt within degreesFit levelFits rowAt table checkByte remainder withByte timesXs timesX
 worked-loaded = refl
+
+-- ---- a page of 160 bytes: 0 °C trips charge cold at 2731 tenths, and 5 °C releases it at 2782; -10 and -5 °C for discharge cold
+
+abbrev pub winter : Settings
+winter =
+    record {
+      rules = workedRules;
+      limits =
+          limits (pos 4250) (pos 4150) 2 3 1
+          ∷ limits (pos 2500) (pos 2600) 4 5 2
+          ∷ limits (pos 3000) (pos 2500) 6 7 1
+          ∷ limits (negsuc 4999) (negsuc 3999) 8 9 2
+          ∷ limits (negsuc 19999) (negsuc 99) 1 12 3
+          ∷ limits (pos 3182) (pos 3131) 10 11 1
+          ∷ limits (pos 3332) (pos 3281) 13 14 2
+          ∷ limits (pos 3532) (pos 3431) 15 16 3
+          ∷ limits (pos 2731) (pos 2782) 2 4 1
+          ∷ limits (pos 2631) (pos 2682) 3 6 2
+          ∷ [];
+    }
+
+pub winter-loaded : loadedOf longPage ≡ record { verdict = Accepted; settings = winter }
+unfolding loadedOf settingsOf rulesOf limitsOf limitsFor limitsFrom sampleLevel inDegrees levelOf signedOf judged refusals meets kindOf kindMeets onRow
+    levelMet orderMet listOf listFrom wordAt within degreesFit levelFits rowAt table checkByte remainder withByte timesXs timesX
+winter-loaded = refl
 
 -- ---- a page whose words are all unlike: each is read where it belongs
 
@@ -120,11 +147,13 @@ unlike =
           ∷ limits (pos 3232) (pos 2331) 14 15 1
           ∷ limits (pos 3382) (pos 2731) 16 17 2
           ∷ limits (pos 3932) (pos 2681) 240 239 3
+          ∷ limits (negsuc 0) (pos 0) 1 1 0
+          ∷ limits (negsuc 0) (pos 0) 1 1 0
           ∷ [];
     }
 
 unlike-loaded : loadedOf unlikePage ≡ record { verdict = Accepted; settings = unlike }
-unfolding loadedOf settingsOf rulesOf limitsOf limitsFrom sampleLevel inDegrees levelOf signedOf judged refusals meets kindOf kindMeets onRow
+unfolding loadedOf settingsOf rulesOf limitsOf limitsFor limitsFrom sampleLevel inDegrees levelOf signedOf judged refusals meets kindOf kindMeets onRow
     levelMet orderMet listOf listFrom wordAt within degreesFit levelFits rowAt table checkByte remainder withByte timesXs timesX
 unlike-loaded = refl
 
@@ -144,7 +173,7 @@ silent =
             voltage = record { 0 = 0 };
             current = pos 0;
           };
-      limits = replicate 8 (limits (pos 0) (pos 0) 0 0 0);
+      limits = replicate 10 (limits (pos 0) (pos 0) 0 0 0);
     }
 
 none-loaded : loadedOf [] ≡ record { verdict = Refused 1 0; settings = silent }

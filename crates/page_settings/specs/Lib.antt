@@ -4,5 +4,5 @@ pub mod Settings
 pub mod Degrees
 -- Every fact that later proofs take from an accepted page.
 pub mod Good
--- Computed cases: two pages with all that they say, and document 02's degrees.
+-- Computed cases: three pages with all that they say, one of them of 160 bytes, and document 02's degrees.
 pub mod Cases

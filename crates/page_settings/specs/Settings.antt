@@ -3,8 +3,9 @@
 use mathlib.Core.Bool.{Bool, true, false, cond}
 use mathlib.Core.List.{List}
 use Prim.Native.Nat.{ℕ, _+_}
-use lib.ListN.{replicate}
-use lib.IntN.{ℤ, pos, _+ℤ_, _*ℤ_}
+use lib.Dec.{ltb}
+use lib.ListN.{length, replicate}
+use lib.IntN.{ℤ, pos, negsuc, _+ℤ_, _*ℤ_}
 use Rattle.laws.specs.Numbered.{listOf}
 use Rattle.units.specs.Levels.{level}
 use Rattle.units.specs.Signed.{signedOf}
@@ -17,7 +18,7 @@ use Rattle.protections.specs.declared.Direction.the-variants.{Above, Below}
 use Rattle.protections.specs.declared.Quantity.{Quantity}
 use Rattle.protections.specs.declared.Quantity.the-variants.{HighestCell, LowestCell, Current, Temperature1, Temperature2}
 use Rattle.page_words.specs.Ranges.{wordAt, levelOf}
-use Rattle.page_faults.specs.Kinds.{tripWord}
+use Rattle.page_faults.specs.Kinds.{layoutOf, tripWord}
 use Rattle.page_judge.specs.Page.{judged}
 use Rattle.refusals.specs.declared.Verdict.{Verdict}
 use Rattle.refusals.specs.declared.Verdict.the-variants.{Accepted, Refused}
@@ -59,9 +60,21 @@ limitsFrom b p =
       mask = wordAt b (at + 4);
     }
 
+-- How many protections the page b has, by its length: those from 0 on.
+abbrev pub pageProtections : List ℕ → ℕ
+pageProtections b = layoutOf (length b) .protections
+
+-- What stands for a protection that a page does not have: no temperature is below 0 tenths of a kelvin.
+abbrev pub absent : Limits
+absent = record { trip = level (negsuc 0); release = level (pos 0); n = 1; m = 1; mask = 0 }
+
+-- What the page b says of protection p, if it has it.
+unfoldable pub limitsFor : List ℕ → ℕ → Limits
+limitsFor b p = cond (ltb p (pageProtections b)) (limitsFrom b p) absent
+
 -- Of each protection, in the order of their numbers.
 unfoldable pub limitsOf : List ℕ → List Limits
-limitsOf b = listOf (limitsFrom b) protections
+limitsOf b = listOf (limitsFor b) protections
 
 -- What the page b says in its words 1 to 8.
 unfoldable pub rulesOf : List ℕ → Rules

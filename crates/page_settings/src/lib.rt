@@ -3,13 +3,13 @@ ghost use mathlib.Core.Path.{_≡_};
 ghost use Prim.Native.Nat.{_≤_, _<_};
 ghost use Rattle.units.specs.Levels.{level};
 ghost use Rattle.protections.specs.Limits.{noLimits};
-ghost use Rattle.protections.specs.Table.{protections};
 ghost use Rattle.page_words.specs.Ranges.{wordAt};
 ghost use Rattle.page_judge.specs.Page.{judged, refusals};
 ghost use Rattle.refusals.specs.Refusals.{given};
 ghost use Rattle.refusals.specs.Answers.{answerOf};
 ghost use Rattle.refusals.specs.declared.Verdict.the-variants.{Accepted};
-ghost use Rattle.page_settings.specs.Settings.{inDegrees, sampleLevel, limitsFrom, limitsOf, rulesOf, settingsOf, noSettings, loadedOf};
+ghost use Rattle.page_settings.specs.Settings.{inDegrees, sampleLevel, limitsFrom, pageProtections, absent, limitsFor, limitsOf, rulesOf, settingsOf, noSettings, loadedOf};
+use page_faults::layout_of;
 use page_faults::trip_word;
 use page_words::level_of;
 use page_words::word_at;
@@ -91,9 +91,17 @@ fn small(page: &[u8], i: u16) -> u8
     word_at(page, i) as u8
 }
 
-// What an accepted page says of protection p: the five words from its trip word on.
+// How many protections the page has, by its length: those from 0 on.
+fn page_protections(page: &[u8]) -> u8
+    ensures { λ r. ⌜ r ≡ pageProtections (now (page .entry)) ⌝ }
+{
+    let layout = layout_of(page.len());
+    layout.protections
+}
+
+// What an accepted page says of protection p, which it has: the five words from its trip word on.
 fn limits_from(page: &[u8], p: ProtectionNo) -> Limits
-    requires { ⌜ (judged (now page) ≡ Accepted) × (p .0 < protections) ⌝ }
+    requires { ⌜ (judged (now page) ≡ Accepted) × (p .0 < pageProtections (now page)) ⌝ }
     ensures { λ r. ⌜ r ≡ limitsFrom (now (page .entry)) (p .0) ⌝ }
 {
     let row = row_of(p);
@@ -113,6 +121,30 @@ fn limits_from(page: &[u8], p: ProtectionNo) -> Limits
         m: m,
         mask: mask,
     }
+}
+
+// What stands for a protection that the page does not have: no temperature is below 0.
+fn absent_limits() -> Limits
+    ensures { λ r. ⌜ r ≡ absent ⌝ }
+{
+    Limits {
+        trip: Level(-1),
+        release: Level(0),
+        n: 1,
+        m: 1,
+        mask: 0,
+    }
+}
+
+// What an accepted page says of protection p, if it has it.
+fn limits_for(page: &[u8], p: ProtectionNo) -> Limits
+    requires { ⌜ judged (now page) ≡ Accepted ⌝ }
+    ensures { λ r. ⌜ r ≡ limitsFor (now (page .entry)) (p .0) ⌝ }
+{
+    if p.0 < page_protections(page) {
+        return limits_from(page, p);
+    }
+    absent_limits()
 }
 
 fn no_limits() -> Limits
@@ -136,7 +168,7 @@ fn limits_of(page: &[u8]) -> [Limits; PROTECTIONS]
     let mut all = [none; PROTECTIONS];
     let mut p: u8 = 0;
     while (p as usize) < PROTECTIONS {
-        all[p as usize] = limits_from(page, ProtectionNo(p));
+        all[p as usize] = limits_for(page, ProtectionNo(p));
         p += 1;
     }
     all

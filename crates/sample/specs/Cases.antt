@@ -36,7 +36,7 @@ mixed = sampled 3 (4000 ∷ 4020 ∷ 3990 ∷ 5999 ∷ 1 ∷ 0 ∷ 0 ∷ 0 ∷ 0
 
 pub quantities
     : listOf (λ p. measure (rowAt p .quantity) mixed) protections
-    ≡ (pos 4020 ∷ pos 3990 ∷ belowZero 7 ∷ belowZero 7 ∷ belowZero 7 ∷ pos 2981 ∷ pos 2981 ∷ pos 3002 ∷ [])
+    ≡ (pos 4020 ∷ pos 3990 ∷ belowZero 7 ∷ belowZero 7 ∷ belowZero 7 ∷ pos 2981 ∷ pos 2981 ∷ pos 3002 ∷ pos 2981 ∷ pos 2981 ∷ [])
 unfolding listOf listFrom measure extremesOf bestOf rowAt table
 quantities = refl
 

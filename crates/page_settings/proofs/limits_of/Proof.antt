@@ -25,8 +25,8 @@ loop-holds c = (omega arith, rw (c .no-limits .ensures))
 cast-loop : tie.Need-cast-loop Inv-loop μ-loop
 cast-loop c = search needs
 
-limits-from-requires : tie.Need-limits-from-requires Inv-loop μ-loop
-limits-from-requires c κs = search needs
+limits-for-requires : tie.Need-limits-for-requires Inv-loop μ-loop
+limits-for-requires c κs = search needs
 
 cast-all : tie.Need-cast-all Inv-loop μ-loop
 cast-all c = search needs
@@ -44,7 +44,7 @@ loop-less : tie.Need-loop-less Inv-loop μ-loop
 loop-less c = omega arith
 
 loop-again : tie.Need-loop-again Inv-loop μ-loop
-loop-again c = (omega arith, limits-next _ _ _ _ (c .before .before .loop .inv .1) (c .limits-from .ensures))
+loop-again c = (omega arith, limits-next _ _ _ _ (c .before .before .loop .inv .1) (c .limits-for .ensures))
 
 returns : tie.Need-returns Inv-loop μ-loop
 returns c = let e : c .before .loop .p ≡ protections = omega arith in rw (← limits-are) (rw e at (c .before .loop .inv .1))
@@ -58,7 +58,7 @@ limits-of-spec =
     no-limits-requires
     loop-holds
     cast-loop
-    limits-from-requires
+    limits-for-requires
     cast-all
     mul-all
     array-set-from-all
