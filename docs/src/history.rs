@@ -24,6 +24,7 @@ mod selftest;
 use std::env;
 use std::fs;
 use std::io::{self, Read, Write};
+use std::ops::{Range, RangeInclusive};
 use std::process;
 
 // ---- The check byte -----------------------------------------------------------------------
@@ -46,7 +47,7 @@ fn check_byte(message: &[u8]) -> u8 {
     left as u8
 }
 
-// ---- The eight protections ----------------------------------------------------------------
+// ---- The protections ----------------------------------------------------------------------
 
 #[derive(Clone, Copy, PartialEq)]
 enum Quantity {
@@ -66,8 +67,9 @@ enum Trips {
 use Quantity::*;
 use Trips::*;
 
-/// The table "The eight protections", row p: quantity and direction.
-const PROTECTIONS: [(Quantity, Trips); 8] = [
+/// The table "The eight protections", row p: quantity and direction. And "two more protections on
+/// temperature 1, tripping at or below: 8 for charge, 9 for discharge" (document 02, request 07).
+const PROTECTIONS: [(Quantity, Trips); 10] = [
     (HighestCell, AtOrAbove),  // 0 over voltage
     (LowestCell, AtOrBelow),   // 1 under voltage
     (Current, AtOrAbove),      // 2 over charge current
@@ -76,9 +78,12 @@ const PROTECTIONS: [(Quantity, Trips); 8] = [
     (Temperature1, AtOrAbove), // 5 charge over heat
     (Temperature1, AtOrAbove), // 6 discharge over heat
     (Temperature2, AtOrAbove), // 7 second thermistor
+    (Temperature1, AtOrBelow), // 8 charge cold
+    (Temperature1, AtOrBelow), // 9 discharge cold
 ];
 
-/// "the number of the first raised one in the order 4, 3, 2, 0, 7, 6, 5", with the table's modes.
+/// "the number of the first raised one in the order 4, 3, 2, 0, 7, 6, 5", with the table's modes. 8
+/// and 9 "have no mode number".
 const MODES: [(usize, u16); 7] =
     [(4, 0x14), (3, 0x13), (2, 0x12), (0, 0x15), (7, 0x16), (6, 0x11), (5, 0x10)];
 
@@ -91,14 +96,45 @@ struct Refusal {
     word: usize,
 }
 
-/// An accepted page: its 64 words.
-#[derive(Clone)]
-struct Page {
-    words: [u16; 64],
+/// How a page of this length is laid out.
+struct Layout {
+    bytes: usize,
+    mark: u16,
+    reserved: [RangeInclusive<usize>; 2],
+    protections: usize,
+    /// The word that holds a zero byte and the check byte.
+    last: usize,
 }
 
-const MARK: u16 = 0x17A4;
-const SWAPPED_MARK: u16 = 0xA417;
+/// The table "The settings page"; and "The new page has 160 bytes, mark 0x17A5, protections in
+/// words 16 to 65, words 66 to 78 zero, byte 158 zero and in byte 159 the check byte of bytes
+/// 0..158" (document 02, request 07).
+static LAYOUTS: [Layout; 2] = [
+    Layout { bytes: 128, mark: 0x17A4, reserved: [9..=15, 56..=62], protections: 8, last: 63 },
+    Layout { bytes: 160, mark: 0x17A5, reserved: [9..=15, 66..=78], protections: 10, last: 79 },
+];
+
+/// "word 0 reads 0xA417"; "2 also for 0xA517", at either length.
+const SWAPPED_MARKS: [u16; 2] = [0xA417, 0xA517];
+
+impl Layout {
+    /// "9..15 reserved", "56..62 reserved"; "On a 160-byte page refusal 5 looks at words 9 to 15,
+    /// words 66 to 78 and byte 158".
+    fn is_reserved(&self, word: usize) -> bool {
+        self.reserved.iter().any(|reserved| reserved.contains(&word))
+    }
+    /// The words of all its protections.
+    fn protection_words(&self) -> Range<usize> {
+        first_word(0)..first_word(self.protections)
+    }
+}
+
+/// An accepted page: its words, and how they are laid out.
+#[derive(Clone)]
+struct Page {
+    layout: &'static Layout,
+    words: Vec<u16>,
+}
 
 /// The table "The settings page", words 1 to 8: word, least, most.
 const RANGES: [(usize, u16, u16); 8] = [
@@ -115,11 +151,6 @@ const RANGES: [(usize, u16, u16); 8] = [
 /// The first word of protection p: "16+5p .. 20+5p: trip, release, N, M, switch mask".
 fn first_word(p: usize) -> usize {
     16 + 5 * p
-}
-
-/// "9..15 reserved", "56..62 reserved".
-fn is_reserved(word: usize) -> bool {
-    (9..=15).contains(&word) || (56..=62).contains(&word)
 }
 
 /// A trip or release word as the number it stands for: cells as they are, currents and
@@ -141,8 +172,8 @@ fn level_range(quantity: Quantity) -> (i32, i32) {
     }
 }
 
-/// Is word 16..55 out of its range? "N and M are 1..240. The mask is 0..3".
-fn protection_word_at_fault(words: &[u16; 64], word: usize) -> bool {
+/// Is this word of a protection out of its range? "N and M are 1..240. The mask is 0..3".
+fn protection_word_at_fault(words: &[u16], word: usize) -> bool {
     let (quantity, _) = PROTECTIONS[(word - 16) / 5];
     let value = words[word];
     match (word - 16) % 5 {
@@ -158,7 +189,7 @@ fn protection_word_at_fault(words: &[u16; 64], word: usize) -> bool {
 
 /// "'At or above' releases at or below the release level, which must be less than trip. 'At or
 /// below' releases at or above its release level, which must be greater."
-fn order_at_fault(words: &[u16; 64], p: usize) -> bool {
+fn order_at_fault(words: &[u16], p: usize) -> bool {
     let (quantity, trips) = PROTECTIONS[p];
     let trip = reading(quantity, words[first_word(p)]);
     let release = reading(quantity, words[first_word(p) + 1]);
@@ -169,54 +200,60 @@ fn order_at_fault(words: &[u16; 64], p: usize) -> bool {
 }
 
 /// The words of a page: "128 bytes, 64 words, low byte first."
-fn words_of(page: &[u8]) -> [u16; 64] {
-    let mut words = [0; 64];
-    for (word, pair) in words.iter_mut().zip(page.chunks(2)) {
-        *word = u16::from(pair[0]) + 256 * u16::from(pair[1]);
-    }
-    words
+fn words_of(page: &[u8]) -> Vec<u16> {
+    page.chunks(2).map(|pair| u16::from(pair[0]) + 256 * u16::from(pair[1])).collect()
 }
 
 /// Rows 1 to 8 of "Refusal numbers". "the lowest number that applies is given. Refusals 5 to 8
 /// name the lowest word at fault (for 8, the trip word); the others name word 0."
 fn judge(page: &[u8]) -> Result<Page, Refusal> {
     let refuse = |number, word| Err(Refusal { number, word });
-    if page.len() != 128 {
-        return refuse(1, 0);
-    }
+    // "Refusal 1 is now given for a length other than 128 or 160"
+    let layout = match LAYOUTS.iter().find(|layout| layout.bytes == page.len()) {
+        None => return refuse(1, 0),
+        Some(layout) => layout,
+    };
     let words = words_of(page);
-    if words[0] == SWAPPED_MARK {
+    if SWAPPED_MARKS.contains(&words[0]) {
         return refuse(2, 0);
     }
-    if words[0] != MARK {
+    // "3 if the mark doesn't fit the length"
+    if words[0] != layout.mark {
         return refuse(3, 0);
     }
-    // "high byte is the check byte of bytes 0..126"
-    if page[127] != check_byte(&page[..127]) {
+    // "high byte is the check byte of bytes 0..126"; "in byte 159 the check byte of bytes 0..158"
+    let zero_byte = 2 * layout.last;
+    if page[zero_byte + 1] != check_byte(&page[..=zero_byte]) {
         return refuse(4, 0);
     }
-    // "a reserved word, or byte 126 (as word 63), isn't 0"
-    if let Some(word) = (0..63).find(|&word| is_reserved(word) && words[word] != 0) {
+    // "a reserved word, or byte 126 (as word 63), isn't 0"; "byte 158, which is named as word 79"
+    if let Some(word) = (0..layout.last).find(|&word| layout.is_reserved(word) && words[word] != 0)
+    {
         return refuse(5, word);
     }
-    if page[126] != 0 {
-        return refuse(5, 63);
+    if page[zero_byte] != 0 {
+        return refuse(5, layout.last);
     }
     for (word, least, most) in RANGES {
         if words[word] < least || words[word] > most {
             return refuse(6, word);
         }
     }
-    if let Some(word) = (16..56).find(|&word| protection_word_at_fault(&words, word)) {
+    if let Some(word) = layout.protection_words().find(|&w| protection_word_at_fault(&words, w)) {
         return refuse(7, word);
     }
-    if let Some(p) = (0..8).find(|&p| order_at_fault(&words, p)) {
+    if let Some(p) = (0..layout.protections).find(|&p| order_at_fault(&words, p)) {
         return refuse(8, first_word(p));
     }
-    Ok(Page { words })
+    Ok(Page { layout, words })
 }
 
 impl Page {
+    /// The protections that it has. "On a 128-byte page 8 and 9 never rise" (document 02, request
+    /// 07).
+    fn protections(&self) -> Range<usize> {
+        0..self.layout.protections
+    }
     /// "cells n"
     fn n(&self) -> usize {
         usize::from(self.words[1])
@@ -335,7 +372,8 @@ fn bit(word: u16, place: usize) -> bool {
 }
 
 /// Everything since the load. Entry i of `raised` and of `bled` is what was decided at entry i of
-/// `samples`: bit p for raised p, bit k - 1 for bled cell k.
+/// `samples`: bit p for raised p, bit k - 1 for bled cell k. "in the replay's raised field 8 and 9"
+/// are bits 8 and 9 too (document 02, request 07).
 struct History {
     page: Page,
     samples: Vec<Sample>,
@@ -408,7 +446,8 @@ impl History {
     /// The raised word at the sample just pushed; `self.raised` still ends at the one before.
     fn decide_raised(&self) -> u16 {
         let before = self.raised_now();
-        (0..8).filter(|&p| self.is_raised_after(p, bit(before, p))).map(|p| 1 << p).sum()
+        let raised = |p: &usize| self.is_raised_after(*p, bit(before, *p));
+        self.page.protections().filter(raised).map(|p| 1 << p).sum()
     }
 
     // ---- Bleeding ----
@@ -468,7 +507,7 @@ impl History {
     /// Does a raised protection have this bit of its mask? "bit 0 blocks charge, bit 1 blocks
     /// discharge".
     fn blocked(&self, switch: usize) -> bool {
-        (0..8).any(|p| bit(self.raised_now(), p) && bit(self.page.mask(p), switch))
+        self.page.protections().any(|p| bit(self.raised_now(), p) && bit(self.page.mask(p), switch))
     }
 
     /// "A switch is on exactly if at least one sample was accepted, its bit is commanded, and no
@@ -513,6 +552,7 @@ impl History {
         [
             (0x8000, bit(raised, 0)),
             (0x4000, self.blocked(0)),
+            // "status 0x1000 stays with 5, 6 and 7" (document 02, request 07)
             (0x1000, bit(raised, 5) || bit(raised, 6) || bit(raised, 7)),
             (0x0800, self.blocked(1)),
             (0x0080, true),
@@ -522,6 +562,13 @@ impl History {
         .filter(|(_, set)| *set)
         .map(|(value, _)| *value)
         .sum()
+    }
+
+    /// "bit p for raised p; bit 8 charge switch on, bit 9 discharge switch on"; 8 and 9 "are bits
+    /// 10 and 11" (document 02, request 07).
+    fn raised_and_switches(&self) -> u16 {
+        let (first_eight, cold) = (self.raised_now() % 256, self.raised_now() / 256);
+        first_eight + 256 * self.fets() + 1024 * cold
     }
 
     /// The table "Words on the bus", for a command that is in it, after the first sample.
@@ -536,7 +583,7 @@ impl History {
             0x15 => self.page.charging_voltage(),
             0x16 => self.status(sample),
             0x30..=0x39 => sample.cells[usize::from(command - 0x30)],
-            0x45 => self.raised_now() + 256 * self.fets(),
+            0x45 => self.raised_and_switches(),
             0x46 => self.bled_now(),
             // "the highest cell's number in the low byte and the lowest cell's in the high byte"
             0x47 => sample.number_of(sample.highest()) + 256 * sample.number_of(sample.lowest()),
@@ -778,7 +825,7 @@ fn run(arguments: &[&str], out: &mut dyn Write) -> Result<(), String> {
             long_log::write_big(argument(seed), argument(count), n, out).map_err(stdout_error)
         }
         ["bigpage", n] => {
-            let words = pages::everyday_words(cells_argument(n));
+            let words = pages::everyday_words(pages::short(), cells_argument(n));
             out.write_all(&pages::page_of(&words)).map_err(stdout_error)
         }
         ["mkpage"] => {

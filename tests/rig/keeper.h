@@ -15,8 +15,9 @@ extern "C" {
  * no final change. Of no bytes it is 0. */
 uint32_t keeper_check_byte(const uint8_t *bytes, size_t length);
 
-/* The judge of a settings page of any length: 0 if it is accepted, else the refusal's number times 256 plus the word at
- * fault. Numbers 1 to 4 name word 0; 5 to 8 name the lowest word at fault, for 8 the trip word. */
+/* The judge of a settings page of any length, of which 128 and 160 bytes are good: 0 if it is accepted, else the refusal's
+ * number times 256 plus the word at fault. Numbers 1 to 4 name word 0; 5 to 8 name the lowest word at fault, for 8 the trip
+ * word. Words go up to 63 on a page of 128 bytes and up to 79 on one of 160. */
 uint32_t keeper_judge_page(const uint8_t *page, size_t length);
 
 /* The two parts of the judge's number: the refusal, 0 if the page is accepted, and the word at fault. */
@@ -26,11 +27,11 @@ uint32_t keeper_judge_page(const uint8_t *page, size_t length);
 /* The refusals of a page. */
 enum {
     KEEPER_ACCEPTED = 0,
-    KEEPER_NOT_128_BYTES = 1,
-    KEEPER_BYTES_SWAPPED = 2,     /* word 0 reads 0xA417 */
-    KEEPER_NO_MARK = 3,           /* word 0 is otherwise not 0x17A4 */
+    KEEPER_LENGTH = 1,            /* neither 128 nor 160 bytes */
+    KEEPER_BYTES_SWAPPED = 2,     /* word 0 reads 0xA417 or 0xA517 */
+    KEEPER_NO_MARK = 3,           /* word 0 is otherwise not the mark of this length: 0x17A4 or 0x17A5 */
     KEEPER_CHECK_BYTE = 4,        /* the check byte differs */
-    KEEPER_RESERVED_NOT_0 = 5,    /* a reserved word, or byte 126 as word 63 */
+    KEEPER_RESERVED_NOT_0 = 5,    /* a reserved word, or byte 126 as word 63, or byte 158 as word 79 */
     KEEPER_SETTING_RANGE = 6,     /* one of words 1 to 8 is out of range */
     KEEPER_PROTECTION_RANGE = 7,  /* a word of a protection is out of range */
     KEEPER_LEVELS_ORDER = 8       /* trip and release are not in their order */

@@ -1,13 +1,14 @@
 //! Cases to compare with: a page and a log.
 
 use super::dice::Dice;
-use super::pages::{accepted_words, everyday_words, page_of, random_page, set_levels, Words};
+use super::pages::*;
 use super::*;
 
 /// An accepted page on which much happens: small N, M, R and K, levels near one another.
-/// `lively` of 0..4 says how many protections are within reach of the samples.
+/// `lively` of 0..4 says how many protections are within reach of the samples. Half are long.
 fn lively_words(dice: &mut Dice, lively: u64) -> Words {
-    let mut words = everyday_words(dice.between(2, 10) as u16);
+    let layout = some_layout(dice);
+    let mut words = everyday_words(layout, dice.between(2, 10) as u16);
     words[2] = dice.between(1, 5) as u16;
     words[3] = dice.pick(&[1, 1, 1, 2, 2, 3, 4, 5]);
     words[4] = dice.pick(&[0, 3900, 3950, 4000]);
@@ -15,7 +16,7 @@ fn lively_words(dice: &mut Dice, lively: u64) -> Words {
     words[6] = dice.pick(&[1, 2, 100, 100, 500, 32767]);
     words[7] = dice.end_or_between(0, 6000) as u16;
     words[8] = dice.end_or_between(0, 32767) as u16;
-    let near: [(i64, i64); 8] = [
+    let near: [(i64, i64); 10] = [
         (4020, 4100),
         (3800, 3950),
         (600, 900),
@@ -24,8 +25,10 @@ fn lively_words(dice: &mut Dice, lively: u64) -> Words {
         (25, 35),
         (28, 40),
         (22, 40),
+        (5, 19),
+        (-4, 17),
     ];
-    let far: [(i64, i64); 8] = [
+    let far: [(i64, i64); 10] = [
         (5998, 5999),
         (1, 2),
         (32000, 32760),
@@ -34,8 +37,10 @@ fn lively_words(dice: &mut Dice, lively: u64) -> Words {
         (115, 119),
         (117, 120),
         (118, 120),
+        (-39, -36),
+        (-40, -37),
     ];
-    for p in 0..8 {
+    for p in 0..layout.protections {
         let (least, most) = if dice.below(4) < lively { near[p] } else { far[p] };
         let low = dice.between(least, most - 1);
         let high = if dice.one_in(3) { low + 1 } else { dice.between(low + 1, most) };
@@ -52,7 +57,7 @@ fn patient_words(dice: &mut Dice) -> Words {
     let lively = dice.below(3);
     let mut words = lively_words(dice, lively);
     words[3] = dice.pick(&[1, 100, 239, 240]);
-    for p in 0..8 {
+    for p in 0..layout_of(&words).protections {
         words[first_word(p) + 2] = dice.pick(&[1, 2, 239, 240]);
         words[first_word(p) + 3] = dice.pick(&[1, 2, 239, 240]);
     }
@@ -70,10 +75,11 @@ struct Story {
 }
 
 impl Story {
-    fn new(words: &Words, twins: bool) -> Story {
+    fn new(words: &[u16], twins: bool) -> Story {
         let cells = vec![4000; usize::from(words[1])];
         let sample = Sample { current: 500, temperature_1: 2980, temperature_2: 2980, cells };
-        Story { page: Page { words: *words }, sample, hold: 0, twins }
+        let page = Page { layout: layout_of(words), words: words.to_vec() };
+        Story { page, sample, hold: 0, twins }
     }
 
     /// A level of one of these protections, or one beside it; of degrees the tenths just below the
@@ -96,9 +102,11 @@ impl Story {
         value.max(-32768).min(32767) as i16
     }
 
-    fn some_temperature(&self, dice: &mut Dice, protections: &[usize]) -> u16 {
+    /// Near a level of one of the protections on it, hot or cold, or everyday, or at an end.
+    fn some_temperature(&self, dice: &mut Dice, quantity: Quantity) -> u16 {
+        let on_it = self.page.protections().filter(|p| PROTECTIONS[*p].0 == quantity);
         let value = match dice.below(8) {
-            0..=4 => self.near_level(dice, protections),
+            0..=4 => self.near_level(dice, &on_it.collect::<Vec<_>>()),
             5 | 6 => dice.pick(&[2980, 2981, 2982]),
             _ => dice.pick(&[2000, 2001, 4499, 4500]),
         };
@@ -157,7 +165,7 @@ impl Story {
 
     /// How long the next sample stays: about one of the page's own run lengths, or short.
     fn some_hold(&self, dice: &mut Dice) -> i64 {
-        let p = dice.below(8) as usize;
+        let p = dice.below(self.page.layout.protections as u64) as usize;
         let run = match dice.below(6) {
             0 => self.page.trip_samples(p),
             1 => self.page.release_samples(p),
@@ -175,8 +183,8 @@ impl Story {
         for _ in 0..dice.between(1, 2) {
             match dice.below(8) {
                 0 | 1 => self.sample.current = self.some_current(dice),
-                2 => self.sample.temperature_1 = self.some_temperature(dice, &[5, 6]),
-                3 => self.sample.temperature_2 = self.some_temperature(dice, &[7]),
+                2 => self.sample.temperature_1 = self.some_temperature(dice, Temperature1),
+                3 => self.sample.temperature_2 = self.some_temperature(dice, Temperature2),
                 4 => self.calm(dice),
                 _ => self.change_cells(dice),
             }
@@ -398,7 +406,7 @@ fn join_lines(dice: &mut Dice, lines: &[Vec<u8>]) -> Vec<u8> {
 }
 
 /// A log for this page, with about `count` lines.
-fn case_log(dice: &mut Dice, words: &Words, count: u64) -> Vec<Vec<u8>> {
+fn case_log(dice: &mut Dice, words: &[u16], count: u64) -> Vec<Vec<u8>> {
     let mut story = Story::new(words, dice.one_in(2));
     let mut lines: Vec<Vec<u8>> = vec![];
     if count > 0 && !dice.one_in(4) {
@@ -411,7 +419,7 @@ fn case_log(dice: &mut Dice, words: &Words, count: u64) -> Vec<Vec<u8>> {
 }
 
 /// Several thousand lines, most of them of a few bytes, so that a read may end anywhere.
-fn short_lines(dice: &mut Dice, words: &Words) -> Vec<Vec<u8>> {
+fn short_lines(dice: &mut Dice, words: &[u16]) -> Vec<Vec<u8>> {
     let mut story = Story::new(words, dice.one_in(2));
     let count = dice.between(4000, 9000);
     (0..count)
@@ -430,7 +438,7 @@ pub fn case(seed: u64, k: u64) -> (Vec<u8>, Vec<u8>) {
     let lively = dice.below(4);
     let words = match k % 50 {
         9 | 34 => patient_words(&mut dice),
-        _ if dice.one_in(8) => accepted_words(&mut dice),
+        _ if dice.one_in(8) => accepted_words(some_layout(&mut dice), &mut dice),
         _ => lively_words(&mut dice, lively),
     };
     let page =

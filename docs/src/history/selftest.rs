@@ -23,16 +23,28 @@ impl Checks {
     }
 }
 
-/// An accepted page with these words changed.
-fn page_with(n: u16, changes: &[(usize, i64)]) -> Page {
-    let mut words = everyday_words(n);
+/// An everyday page of n cells with these words changed.
+fn changed(layout: &Layout, n: u16, changes: &[(usize, i64)]) -> Vec<u8> {
+    let mut words = everyday_words(layout, n);
     for (word, value) in changes {
         words[*word] = level_word(*value);
     }
-    match judge(&page_of(&words)) {
+    page_of(&words)
+}
+
+fn accepted(page: &[u8]) -> Page {
+    match judge(page) {
         Ok(page) => page,
         Err(refusal) => panic!("a page of the self test is refused: {:?}", refusal),
     }
+}
+
+fn page_with(n: u16, changes: &[(usize, i64)]) -> Page {
+    accepted(&changed(short(), n, changes))
+}
+
+fn long_page_with(n: u16, changes: &[(usize, i64)]) -> Page {
+    accepted(&changed(long(), n, changes))
 }
 
 fn sample_of(current: i16, cells: &[u16]) -> Sample {
@@ -175,19 +187,27 @@ fn check_the_limits(checks: &mut Checks) {
     }
 }
 
-/// "an upper trip at C needs a sample of 10 × C + 2732 or more, and its release one of 10 × C + 2731
-/// or less"
+/// "an upper trip at C needs a sample of 10 × C + 2732 or more, and its release one of 10 × C +
+/// 2731 or less; a lower limit is the mirror"
 fn check_the_degrees(checks: &mut Checks) {
-    for (trip, release) in [(25, -40), (120, 25), (-39, -40)] {
-        for (p, second) in [(5, false), (6, false), (7, true)] {
+    for (high, low) in [(25, -40), (120, 25), (-39, -40), (1, 0)] {
+        for p in [5, 6, 7, 8, 9] {
+            let upper = p < 8;
+            let (trip, release) = if upper { (high, low) } else { (low, high) };
             let at = first_word(p);
-            let page = page_with(2, &[(at, trip), (at + 1, release), (at + 2, 1), (at + 3, 1)]);
-            let mut history = History::load(page);
-            let mut steps = vec![(10 * trip + 2731, false), (10 * trip + 2732, true)];
-            steps.extend([(10 * release + 2732, true), (10 * release + 2731, false)]);
-            for (tenths, raised) in steps {
+            let limits = [(at, trip), (at + 1, release), (at + 2, 1), (at + 3, 1)];
+            let mut history = History::load(long_page_with(2, &limits));
+            // Just short of the trip, the trip, just short of the release, the release.
+            let (below, above) = (2731, 2732);
+            let (far, near) = if upper { (below, above) } else { (above, below) };
+            for (tenths, raised) in [
+                (10 * trip + far, false),
+                (10 * trip + near, true),
+                (10 * release + near, true),
+                (10 * release + far, false),
+            ] {
                 let mut sample = sample_of(0, &[4000, 4000]);
-                if second {
+                if p == 7 {
                     sample.temperature_2 = tenths as u16;
                 } else {
                     sample.temperature_1 = tenths as u16;
@@ -200,8 +220,140 @@ fn check_the_degrees(checks: &mut Checks) {
     }
 }
 
+/// Request 07: a sample at so many tenths, and what is shown after it.
+fn check_the_cold(checks: &mut Checks) {
+    let at = |tenths, current| {
+        let mut sample = sample_of(current, &[4000, 4100, 4000]);
+        sample.temperature_1 = tenths;
+        sample
+    };
+    let cold = |masks: (i64, i64)| {
+        let eight = [(56, 0), (57, 1), (58, 1), (59, 1), (60, masks.0)];
+        let nine = [(61, -10), (62, -9), (63, 1), (64, 1), (65, masks.1)];
+        let mut history = History::load(long_page_with(3, &[eight, nine].concat()));
+        let commanded = history.command(3).is_ok();
+        (history, commanded)
+    };
+    let sent = |history: &History, command| {
+        history.reply(command, 3).map(|reply| u16::from_le_bytes([reply[0], reply[1]]))
+    };
+    // Tenths, then raised, fets, 0x45 and the status: at 0 degrees 2731 trips and 2732 does not.
+    let charging = 500;
+    for (masks, steps) in [
+        (
+            (1, 2),
+            &[
+                (2732, 0, 3, 0x0300, 0x0080),
+                (2731, 256, 2, 0x0600, 0x4080),
+                (2632, 256, 2, 0x0600, 0x4080),
+                (2631, 768, 0, 0x0C00, 0x4880),
+                (2641, 768, 0, 0x0C00, 0x4880),
+                (2642, 256, 2, 0x0600, 0x4080),
+                (2741, 256, 2, 0x0600, 0x4080),
+                (2742, 0, 3, 0x0300, 0x0080),
+            ][..],
+        ),
+        ((2, 1), &[(2731, 256, 1, 0x0500, 0x0880), (2000, 768, 0, 0x0C00, 0x4880)][..]),
+        ((0, 0), &[(2731, 256, 3, 0x0700, 0x0080), (2000, 768, 3, 0x0F00, 0x0080)][..]),
+    ] {
+        let (mut history, mut right) = cold(masks);
+        for &(tenths, raised, fets, word, status) in steps {
+            right = right && history.offer(at(tenths, charging)).is_ok();
+            let what = format!("cold: masks {:?}, {} tenths", masks, tenths);
+            right = right && history.raised_now() == raised && history.fets() == fets;
+            right = right && sent(&history, 0x45) == Ok(word);
+            right = right && sent(&history, 0x16) == Ok(status);
+            // "They have no mode number": 3 is charging.
+            right = right && history.mode() == 3;
+            let blocked = status & 0x4000 != 0;
+            let asked = if blocked { (0, 0) } else { (2000, 3 * 4200) };
+            right = right && sent(&history, 0x14) == Ok(asked.0);
+            right = right && sent(&history, 0x15) == Ok(asked.1);
+            // "no protection is raised": then cell 2 is bled.
+            right = right && history.bled_now() == if raised == 0 { 2 } else { 0 };
+            checks.that(&what, right);
+        }
+    }
+    let (mut history, _) = cold((1, 2));
+    let discharging = history.offer(at(2000, -500)).is_ok() && history.mode() == 2;
+    checks.that("cold and discharging: mode 2", discharging);
+    let mut history = History::load(page_with(3, &[]));
+    let never = (0..300).all(|_| history.offer(at(2000, 0)).is_ok() && history.raised_now() == 0);
+    checks.that("on a 128-byte page 8 and 9 never rise", never);
+}
+
+/// Request 07: the new page.
+fn check_the_long_pages(checks: &mut Checks) {
+    let page = changed(long(), 7, &[]);
+    checks.that("an everyday long page is accepted", answer(&page) == 0 && page.len() == 160);
+    checks.that("it begins A5 17", page[..2] == [0xA5, 0x17]);
+    let check = check_byte(&page[..159]);
+    checks.that("its check byte is that of bytes 0..158", page[159] == check && page[158] == 0);
+    checks.that("swapped it gives 2", answer(&byte_swapped(&page)) == refused_as(2, 0));
+    for length in [0, 127, 129, 144, 159, 161, 256] {
+        let mut other = page.clone();
+        other.resize(length, 0);
+        checks.that("a page of another length gives 1", answer(&other) == refused_as(1, 0));
+    }
+    for (layout, mark, number) in [
+        (short(), 0x17A4, 0),
+        (short(), 0x17A5, 3),
+        (short(), 0xA417, 2),
+        (short(), 0xA517, 2),
+        (long(), 0x17A4, 3),
+        (long(), 0x17A5, 0),
+        (long(), 0xA417, 2),
+        (long(), 0xA517, 2),
+    ] {
+        let what = format!("{} bytes with mark {:04x} give {}", layout.bytes, mark, number);
+        checks.that(&what, answer(&changed(layout, 7, &[(0, mark)])) == refused_as(number, 0));
+    }
+    // A word, its value, the answer: "words 56 to 62 and byte 126 belong to protections there".
+    for (word, value, number) in [
+        (9, 1, 5),
+        (15, 256, 5),
+        (66, 1, 5),
+        (78, 1, 5),
+        (79, 1, 5),
+        (1, 11, 6),
+        (56, -41, 7),
+        (57, 121, 7),
+        (58, 0, 7),
+        (59, 241, 7),
+        (60, 4, 7),
+        (61, 121, 7),
+        (62, -41, 7),
+        (63, 0, 7),
+        (63, 240, 0),
+        (63, 241, 7),
+        (64, 0, 7),
+        (65, 3, 0),
+        (65, 4, 7),
+        (56, 3, 8),
+        (56, 2, 0),
+        (56, 4, 8),
+        (61, -15, 8),
+        (61, -16, 0),
+    ] {
+        let answer = answer(&changed(long(), 7, &[(word, value)]));
+        let what = format!("a long page with {} in word {} gives {}", value, word, number);
+        checks.that(&what, answer == refused_as(number, if number == 0 { 0 } else { word }));
+    }
+    let lowest = |changes: &[(usize, i64)]| answer(&changed(long(), 7, changes));
+    checks.that("5 before 6", lowest(&[(79, 1), (1, 1)]) == refused_as(5, 79));
+    checks.that("66 before 79", lowest(&[(79, 1), (66, 1)]) == refused_as(5, 66));
+    checks.that("7 at 65 before 8 at 16", lowest(&[(65, 4), (16, 0)]) == refused_as(7, 65));
+    checks.that("8 at 56 before 8 at 61", lowest(&[(56, 9), (61, 9)]) == refused_as(8, 56));
+    let list = "1 2\n65 1\n";
+    let made = page_from_list(list).unwrap_or_default();
+    checks.that("a list with word 65 makes a long page", made.len() == 160 && made[0] == 0xA5);
+    let made = page_from_list("63 1\n").unwrap_or_default();
+    checks.that("a list up to word 63 makes a short page", made.len() == 128 && made[0] == 0xA4);
+    checks.that("there is no word 80", page_from_list("80 0\n").is_err());
+}
+
 fn check_the_pages(checks: &mut Checks) {
-    let page = page_of(&everyday_words(7));
+    let page = changed(short(), 7, &[]);
     checks.that("a page of 127 bytes gives 1", answer(&page[..127]) == refused_as(1, 0));
     checks.that("an everyday page is accepted", answer(&page) == 0);
     let begins_17_a4 = [&[0x17, 0xA4][..], &page[2..]].concat();
@@ -213,9 +365,18 @@ fn check_the_pages(checks: &mut Checks) {
         eprintln!("selftest: {}", message);
     }
     checks.that("each made page has the answer it was made for", made.is_ok());
-    // 1 to 4; 5 at 15 words, 6 at 8, 7 at 34, 8 at 8; and accepted.
-    let answers: BTreeSet<u32> = each_answer(&mut Dice(1)).iter().map(|made| made.0).collect();
-    checks.that("there are 70 answers", answers.len() == 4 + 15 + 8 + 34 + 8 + 1);
+    if let Ok(made) = made {
+        let long = made.iter().filter(|made| made.1.len() == 160).count();
+        checks.that("half of the made pages are long", (5000..=7000).contains(&long));
+    }
+    // 1 to 4; 5 at 15 words, 6 at 8, 7 at 34, 8 at 8; and accepted. A long page has 5 at 6 words
+    // more, 7 at 10 and 8 at 2.
+    for (layout, count) in [(short(), 4 + 15 + 8 + 34 + 8 + 1), (long(), 4 + 21 + 8 + 44 + 10 + 1)]
+    {
+        let made = each_answer(layout, &mut Dice(1));
+        let answers: BTreeSet<u32> = made.iter().map(|made| made.0).collect();
+        checks.that(&format!("there are {} answers", count), answers.len() == count);
+    }
 }
 
 const WORKED_LOG: &str = "F 3
@@ -316,7 +477,9 @@ pub fn selftest() -> bool {
     check_the_numbers(&mut checks);
     check_the_limits(&mut checks);
     check_the_degrees(&mut checks);
+    check_the_cold(&mut checks);
     check_the_pages(&mut checks);
+    check_the_long_pages(&mut checks);
     check_the_replay(&mut checks);
     check_the_lines(&mut checks);
     check_the_tick(&mut checks);
