@@ -11,8 +11,11 @@ find_rustc() {
     return 1
 }
 
-# Builds a program of docs/src where it is missing or older than its source.
+# Builds a program of docs/src where it is missing, or where anything there has changed since.
 build_rust() { # OUTPUT NAME
-    if [ -f "$1" ] && [ "$1" -nt "docs/src/$2.rs" ]; then return 0; fi
-    rustc -O --edition 2021 -D warnings -o "$1" "docs/src/$2.rs"
+    if [ -f "$1" ] && newer=$(find docs/src -newer "$1") && [ -z "$newer" ]; then return 0; fi
+    rustc -O --edition 2021 -D warnings -o "$1" "docs/src/$2.rs" && return 0
+    echo "docs/src/$2.rs could not be built" >&2
+    rm -f "$1"
+    return 1
 }

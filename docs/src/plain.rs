@@ -4,9 +4,9 @@
 //!
 //!     plain replay PAGE LOG
 //!
-//! It is written from document 01 alone. It reads and writes large blocks, reads the numbers of a
-//! line where they stand, and keeps a run counter for each protection and each cell. It is what
-//! the pack keeper races against.
+//! It is written from documents 01 and 02 alone. It reads and writes large blocks, reads the
+//! numbers of a line where they stand, and keeps a run counter for each protection and each cell.
+//! It is what the pack keeper races against.
 
 use std::env;
 use std::fs::{self, File};
@@ -42,9 +42,10 @@ const NEGATED_LOWEST_CELL: usize = 1;
 const CURRENT: usize = 2;
 const NEGATED_CURRENT: usize = 3;
 const TEMPERATURE_1: usize = 4;
-const TEMPERATURE_2: usize = 5;
+const NEGATED_TEMPERATURE_1: usize = 5;
+const TEMPERATURE_2: usize = 6;
 
-const QUANTITIES: [usize; 8] = [
+const QUANTITIES: [usize; 10] = [
     HIGHEST_CELL,
     NEGATED_LOWEST_CELL,
     CURRENT,
@@ -53,6 +54,8 @@ const QUANTITIES: [usize; 8] = [
     TEMPERATURE_1,
     TEMPERATURE_1,
     TEMPERATURE_2,
+    NEGATED_TEMPERATURE_1,
+    NEGATED_TEMPERATURE_1,
 ];
 
 /// The mode of a raised protection, in the order in which they are asked.
@@ -74,16 +77,30 @@ fn level(quantity: usize, word: u16) -> i32 {
 /// A level as it is compared: negated where the quantity is.
 fn compared(quantity: usize, level: i32) -> i32 {
     match quantity {
-        NEGATED_LOWEST_CELL | NEGATED_CURRENT => -level,
+        NEGATED_LOWEST_CELL | NEGATED_CURRENT | NEGATED_TEMPERATURE_1 => -level,
         _ => level,
     }
 }
 
-/// A level in the unit of the samples. C degrees are 10 × C + 2731.5 tenths of a kelvin, so that a
-/// trip needs 10 × C + 2732 or more and a release 10 × C + 2731 or less.
-fn sampled(quantity: usize, level: i32, tenths_at_zero: i32) -> i32 {
+/// A trip level as it is compared, in the unit of the samples. C degrees are 10 × C + 2731.5 tenths
+/// of a kelvin, so that an upper trip needs 10 × C + 2732 or more, and a lower one 10 × C + 2731 or
+/// less.
+fn trip_level(quantity: usize, word: u16) -> i32 {
+    let level = compared(quantity, level(quantity, word));
     match quantity {
-        TEMPERATURE_1 | TEMPERATURE_2 => 10 * level + tenths_at_zero,
+        TEMPERATURE_1 | TEMPERATURE_2 => 10 * level + 2732,
+        NEGATED_TEMPERATURE_1 => 10 * level - 2731,
+        _ => level,
+    }
+}
+
+/// A release level likewise: an upper one needs 10 × C + 2731 or less, a lower one 10 × C + 2732 or
+/// more.
+fn release_level(quantity: usize, word: u16) -> i32 {
+    let level = compared(quantity, level(quantity, word));
+    match quantity {
+        TEMPERATURE_1 | TEMPERATURE_2 => 10 * level + 2731,
+        NEGATED_TEMPERATURE_1 => 10 * level - 2732,
         _ => level,
     }
 }
@@ -96,37 +113,51 @@ fn level_out_of_range(quantity: usize, level: i32) -> bool {
     }
 }
 
-/// The words of an accepted page, or the refusal's number and word.
-fn judge(page: &[u8]) -> Result<[u16; 64], (u32, usize)> {
-    if page.len() != 128 {
-        return Err((1, 0));
+/// How many protections a page with so many words has: of 64 or of 80.
+fn protections(words: &[u16]) -> usize {
+    if words.len() == 64 {
+        8
+    } else {
+        10
     }
-    let mut words = [0u16; 64];
-    for (word, pair) in words.iter_mut().zip(page.chunks_exact(2)) {
-        *word = u16::from_le_bytes([pair[0], pair[1]]);
+}
+
+/// The words of an accepted page, 64 or 80, or the refusal's number and word.
+fn judge(page: &[u8]) -> Result<Vec<u16>, (u32, usize)> {
+    let mark = match page.len() {
+        128 => 0x17A4,
+        160 => 0x17A5,
+        _ => return Err((1, 0)),
+    };
+    let words: Vec<u16> =
+        page.chunks_exact(2).map(|pair| u16::from_le_bytes([pair[0], pair[1]])).collect();
+    if words[0] == 0xA417 || words[0] == 0xA517 {
+        return Err((2, 0));
     }
-    match words[0] {
-        0x17A4 => {}
-        0xA417 => return Err((2, 0)),
-        _ => return Err((3, 0)),
+    if words[0] != mark {
+        return Err((3, 0));
     }
-    if page[127] != check_byte(&page[..127]) {
+    let end = page.len() - 1;
+    if page[end] != check_byte(&page[..end]) {
         return Err((4, 0));
     }
-    for word in (9..16).chain(56..63) {
+    let last = words.len() - 1;
+    let after = 16 + 5 * protections(&words);
+    for word in (9..16).chain(after..last) {
         if words[word] != 0 {
             return Err((5, word));
         }
     }
-    if page[126] != 0 {
-        return Err((5, 63));
+    if page[end - 1] != 0 {
+        return Err((5, last));
     }
     for (word, (least, most)) in (1..9).zip(RANGES) {
         if words[word] < least || words[word] > most {
             return Err((6, word));
         }
     }
-    for (p, &quantity) in QUANTITIES.iter().enumerate() {
+    let quantities = &QUANTITIES[..protections(&words)];
+    for (p, &quantity) in quantities.iter().enumerate() {
         let first = 16 + 5 * p;
         let count_out = |count: u16| count < 1 || count > 240;
         let wrong = [
@@ -140,7 +171,7 @@ fn judge(page: &[u8]) -> Result<[u16; 64], (u32, usize)> {
             return Err((7, first + place));
         }
     }
-    for (p, &quantity) in QUANTITIES.iter().enumerate() {
+    for (p, &quantity) in quantities.iter().enumerate() {
         let first = 16 + 5 * p;
         let trip = compared(quantity, level(quantity, words[first]));
         let release = compared(quantity, level(quantity, words[first + 1]));
@@ -161,17 +192,17 @@ struct Pack {
     floor: i32,
     difference: i32,
     detection: i32,
-    trip: [i32; 8],
-    release: [i32; 8],
-    trip_count: [u32; 8],
-    release_count: [u32; 8],
-    mask: [u32; 8],
+    trip: [i32; 10],
+    release: [i32; 10],
+    trip_count: [u32; 10],
+    release_count: [u32; 10],
+    mask: [u32; 10],
     // What changes.
     commanded: u32,
     /// Bit p for raised p; bit p of `running` if protection p has a run that isn't 0.
     raised: u32,
     running: u32,
-    runs: [u32; 8],
+    runs: [u32; 10],
     /// Bits of the masks of all raised protections.
     blocked: u32,
     start: usize,
@@ -182,7 +213,7 @@ struct Pack {
 }
 
 impl Pack {
-    fn load(words: &[u16; 64]) -> Pack {
+    fn load(words: &[u16]) -> Pack {
         let mut pack = Pack {
             n: usize::from(words[1]),
             most_bled: u32::from(words[2]),
@@ -190,15 +221,16 @@ impl Pack {
             floor: i32::from(words[4]),
             difference: i32::from(words[5]),
             detection: i32::from(words[6]),
-            trip: [0; 8],
-            release: [0; 8],
-            trip_count: [0; 8],
-            release_count: [0; 8],
-            mask: [0; 8],
+            // What the page doesn't have is never tripped.
+            trip: [i32::MAX; 10],
+            release: [0; 10],
+            trip_count: [1; 10],
+            release_count: [1; 10],
+            mask: [0; 10],
             commanded: 0,
             raised: 0,
             running: 0,
-            runs: [0; 8],
+            runs: [0; 10],
             blocked: 0,
             start: 0,
             balance: 0,
@@ -206,12 +238,10 @@ impl Pack {
             mode: 0,
             any_sample: false,
         };
-        for (p, &quantity) in QUANTITIES.iter().enumerate() {
+        for (p, &quantity) in QUANTITIES[..protections(words)].iter().enumerate() {
             let first = 16 + 5 * p;
-            let trip = compared(quantity, level(quantity, words[first]));
-            let release = compared(quantity, level(quantity, words[first + 1]));
-            pack.trip[p] = sampled(quantity, trip, 2732);
-            pack.release[p] = sampled(quantity, release, 2731);
+            pack.trip[p] = trip_level(quantity, words[first]);
+            pack.release[p] = release_level(quantity, words[first + 1]);
             pack.trip_count[p] = u32::from(words[first + 2]);
             pack.release_count[p] = u32::from(words[first + 3]);
             pack.mask[p] = u32::from(words[first + 4]);
@@ -258,6 +288,7 @@ impl Pack {
             sample.current,
             -sample.current,
             sample.temperature_1,
+            -sample.temperature_1,
             sample.temperature_2,
         ];
         self.protect(&quantities);
@@ -275,9 +306,9 @@ impl Pack {
 
     /// Steps the protections. A clear one counts tripping samples, a raised one releasing samples;
     /// mostly no run goes on, and then all runs are 0.
-    fn protect(&mut self, quantities: &[i32; 6]) {
+    fn protect(&mut self, quantities: &[i32; 7]) {
         let (mut tripping, mut releasing) = (0u32, 0u32);
-        for p in 0..8 {
+        for p in 0..10 {
             tripping |= u32::from(quantities[QUANTITIES[p]] >= self.trip[p]) << p;
             releasing |= u32::from(quantities[QUANTITIES[p]] <= self.release[p]) << p;
         }
@@ -303,7 +334,7 @@ impl Pack {
         }
         if self.raised != before {
             let raised = self.raised;
-            let masks = (0..8).filter(|p| raised >> p & 1 == 1).map(|p| self.mask[p]);
+            let masks = (0..10).filter(|p| raised >> p & 1 == 1).map(|p| self.mask[p]);
             self.blocked = masks.fold(0, |all, mask| all | mask);
         }
     }
@@ -541,7 +572,7 @@ impl Output {
         for value in [fields.0, fields.1, fields.2, fields.3] {
             self.tail[self.tail_length] = b'\t';
             self.tail_length += 1;
-            // At most four digits: `balance` is at most 1023.
+            // At most four digits: `raised` and `balance` are at most 1023.
             for (least, unit) in [(1000, 1000), (100, 100), (10, 10), (0, 1)] {
                 if value >= least {
                     self.tail[self.tail_length] = b'0' + (value / unit % 10) as u8;

@@ -60,32 +60,40 @@ static void published(void)
     ends("published check bytes");
 }
 
-/* Either mark with its bytes swapped is refused with 2 at either length, the mark of the other length with 3, and any other
- * length, a null page too, with 1. */
+/* A page with its byte pairs swapped is refused with 2, and one whose mark is that of the other length with 3. A null page is refused
+ * with 1. */
 static void swapped(void)
 {
     static uint8_t page[161] = { 0x17, 0xA4 };
-    for (int i = 0; i < 2; i++, page[1] = 0xA5) {
-        expect("128 bytes that begin with a swapped mark", keeper_judge_page(page, 128), 2 * 256);
-        expect("160 bytes that begin with a swapped mark", keeper_judge_page(page, 160), 2 * 256);
-    }
+    expect("a page that begins 17 A4", keeper_judge_page(page, 128), 2 * 256);
+    expect("a long page that begins 17 A4", keeper_judge_page(page, 160), 2 * 256);
+    page[1] = 0xA5;
+    expect("a page that begins 17 A5", keeper_judge_page(page, 128), 2 * 256);
+    expect("a long page that begins 17 A5", keeper_judge_page(page, 160), 2 * 256);
     page[0] = 0xA5, page[1] = 0x17;
-    expect("128 bytes with the mark of 160", keeper_judge_page(page, 128), 3 * 256);
+    expect("a short page that begins A5 17", keeper_judge_page(page, 128), 3 * 256);
     page[0] = 0xA4;
-    expect("160 bytes with the mark of 128", keeper_judge_page(page, 160), 3 * 256);
-    for (size_t n = 0; n <= 161; n++)
-        if (n != 128 && n != 160)
-            expect("a page of another length", keeper_judge_page(page, n), 1 * 256);
+    expect("a long page that begins A4 17", keeper_judge_page(page, 160), 3 * 256);
+    for (size_t length = 0; length <= 161; length++)
+        if (length != 128 && length != 160)
+            expect("a page of another length", keeper_judge_page(page, length), 1 * 256);
     expect("a null page of length 0", keeper_judge_page(NULL, 0), 1 * 256);
     ends("pages worked by hand");
 }
 
-/* The names of the header, on a page of this length: each refusal is found in the number of a page that has it, and so is the word.
- * The page of zeros becomes good from the front: mark, check byte, reserved words, settings, protections. */
-static void named(size_t length, uint8_t mark, int protections)
+/* The judge's answer to a page whose last byte is made its check byte. */
+static uint32_t sealed(uint8_t *page, size_t length)
 {
-    static uint8_t bytes[160];
-    uint8_t *page = memset(bytes, 0, sizeof bytes), *check = page + length - 1;
+    page[length - 1] = (uint8_t)keeper_check_byte(page, length - 1);
+    return keeper_judge_page(page, length);
+}
+
+/* The names of the header, for a page of this length: each refusal is found in the number of a page that has it, and so is the word. The
+ * page of zeros becomes good from the front: mark, check byte, reserved words, settings, protections. Those of 1, 3, 4, 8 and 9 trip at
+ * or below. */
+static void named(uint8_t *page, size_t length, uint8_t mark, int protections)
+{
+    size_t last = length / 2 - 1;
     uint32_t answer = keeper_judge_page(page, 5);
     expect("5 bytes", KEEPER_REFUSAL(answer), KEEPER_WRONG_LENGTH);
     page[0] = 0x17, page[1] = mark;
@@ -93,39 +101,38 @@ static void named(size_t length, uint8_t mark, int protections)
     page[0] = 0;
     expect("no mark", KEEPER_REFUSAL(keeper_judge_page(page, length)), KEEPER_NO_MARK);
     page[0] = mark, page[1] = 0x17;
+    page[length - 1] = (uint8_t)(keeper_check_byte(page, length - 1) ^ 1);
     expect("a wrong check byte", KEEPER_REFUSAL(keeper_judge_page(page, length)), KEEPER_CHECK_BYTE);
-    check[-1] = 1;
-    *check = (uint8_t)keeper_check_byte(page, length - 1);
-    answer = keeper_judge_page(page, length);
+    page[2 * last] = 1;
+    answer = sealed(page, length);
     expect("the byte before the check byte", KEEPER_REFUSAL(answer), KEEPER_RESERVED_NOT_0);
-    expect("the last word's number", KEEPER_WORD(answer), length / 2 - 1);
+    expect("the word of that byte", KEEPER_WORD(answer), (uint32_t)last);
+    page[2 * (last - 1)] = 1;
+    answer = sealed(page, length);
+    expect("the last reserved word's number", KEEPER_WORD(answer), (uint32_t)last - 1);
     page[2 * 9] = 1;
-    *check = (uint8_t)keeper_check_byte(page, length - 1);
-    answer = keeper_judge_page(page, length);
+    answer = sealed(page, length);
     expect("a reserved word", KEEPER_REFUSAL(answer), KEEPER_RESERVED_NOT_0);
     expect("the reserved word's number", KEEPER_WORD(answer), 9);
-    page[2 * 9] = check[-1] = 0;
-    *check = (uint8_t)keeper_check_byte(page, length - 1);
-    answer = keeper_judge_page(page, length);
+    page[2 * 9] = page[2 * (last - 1)] = page[2 * last] = 0;
+    answer = sealed(page, length);
     expect("no cells", KEEPER_REFUSAL(answer), KEEPER_SETTING_RANGE);
     expect("the word of the cells", KEEPER_WORD(answer), 1);
     page[2] = 2, page[4] = page[6] = page[10] = page[12] = 1;
     for (int p = 0; p < protections; p++) {
-        *check = (uint8_t)keeper_check_byte(page, length - 1);
-        answer = keeper_judge_page(page, length);
+        answer = sealed(page, length);
         expect("N of 0", KEEPER_REFUSAL(answer), KEEPER_PROTECTION_RANGE);
-        expect("the word of N", KEEPER_WORD(answer), 18 + 5 * p);
+        expect("the word of N", KEEPER_WORD(answer), (uint32_t)(18 + 5 * p));
         page[2 * (18 + 5 * p)] = page[2 * (19 + 5 * p)] = 1;
     }
     for (int p = 0; p < protections; p++) {
-        *check = (uint8_t)keeper_check_byte(page, length - 1);
-        answer = keeper_judge_page(page, length);
+        int below = p == 1 || p == 3 || p == 4 || p >= 8;
+        answer = sealed(page, length);
         expect("trip and release equal", KEEPER_REFUSAL(answer), KEEPER_LEVELS_ORDER);
-        expect("the word of the trip", KEEPER_WORD(answer), 16 + 5 * p);
-        page[2 * ((p == 1 || p == 3 || p == 4 || p > 7 ? 17 : 16) + 5 * p)] = 1;
+        expect("the word of the trip", KEEPER_WORD(answer), (uint32_t)(16 + 5 * p));
+        page[2 * (16 + below + 5 * p)] = 1;
     }
-    *check = (uint8_t)keeper_check_byte(page, length - 1);
-    expect("a good page", keeper_judge_page(page, length), KEEPER_ACCEPTED);
+    expect("a good page", sealed(page, length), KEEPER_ACCEPTED);
     ends(length == 128 ? "the names of keeper.h, 128 bytes" : "the names of keeper.h, 160 bytes");
 }
 
@@ -155,14 +162,15 @@ static void compare(const char *name, const char *line, uint32_t (*function)(con
 
 int main(int count, char **words)
 {
+    static uint8_t page[128], long_page[160];
     if (count != 3) {
         fprintf(stderr, "usage: rig VECTORS PAGES\n");
         return 2;
     }
     published();
     swapped();
-    named(128, 0xA4, 8);
-    named(160, 0xA5, 10);
+    named(page, 128, 0xA4, 8);
+    named(long_page, 160, 0xA5, 10);
     compare(words[1], "%2x %8192s", keeper_check_byte);
     compare(words[2], "%u %8192s", keeper_judge_page);
     printf("%u passed, %u failed\n", passed, failed);
