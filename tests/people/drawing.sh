@@ -27,7 +27,7 @@ says 'the bars of the bled cells' "$(bits 4 7)" "$(drawn bled | lengths)"
 says 'the bars of the raised protections' "$(bits 2 8)" "$(drawn raised | lengths)"
 says 'the bars of the switches' "$(bits 3 2)" "$(drawn switches | lengths)"
 says 'the floor' 1 "$(grep -c '^plot .*, 3900 with lines .*floor' "$made/program")"
-says 'the names of the protections' "$(cut -f 2 "$made/table.p")" "$(sed -n "s/^set ytics (\('over voltage'.*\)) .*/\1/p" "$made/program" | tr ',' '\n' | sed "s/^ *'\(.*\)' .*/\1/")"
+says 'the names of the protections' "$(head -n 8 "$made/table.p" | cut -f 2)" "$(sed -n "s/^set ytics (\('over voltage'.*\)) .*/\1/p" "$made/program" | tr ',' '\n' | sed "s/^ *'\(.*\)' .*/\1/")"
 cat "$log" | PATH=$here/$made/keeping:$PATH KEPT=$here/$made/program.pipe ./keeper plot "$page" - "$made/kept.svg"
 says 'a log from standard input is drawn the same' "$(sed 's/tour.log, page/standard input, page/' "$made/program")" "$(cat "$made/program.pipe")"
 
@@ -92,7 +92,7 @@ rm -rf "$made/bare"
 
 # ---- the tour's picture, by gnuplot itself, and the one that README shows
 whole() { # WHAT FILE
-    says "$1 is whole" 'svg 8 7' "$(tail -c 16 "$2" | tr -d '\n' | sed 's/.*<\/\(svg\)>$/\1/') $(cut -f 2 "$made/table.p" | while IFS= read -r name; do grep -c ">$name<" "$2"; done | grep -c 1) $(grep -o '>cell [1-7]<' "$2" | sort -u | wc -l | tr -d ' ')"
+    says "$1 is whole" 'svg 8 7' "$(tail -c 16 "$2" | tr -d '\n' | sed 's/.*<\/\(svg\)>$/\1/') $(head -n 8 "$made/table.p" | cut -f 2 | while IFS= read -r name; do grep -c ">$name<" "$2"; done | grep -c 1) $(grep -o '>cell [1-7]<' "$2" | sort -u | wc -l | tr -d ' ')"
     says "$1 has the tour's samples in its title" 1 "$(grep -c "tour.log, page tour.page: $samples samples" "$2")"
     shapes=$(grep -c '<path\|<polygon' "$2")
     if [ "$shapes" -gt 100 ]; then ok "$1 is not empty: $shapes shapes"; else bad "$1 has $shapes shapes"; fi

@@ -1,8 +1,9 @@
 # From the words of the page: a case for each end of a range, judged to be accepted, and for one past each end, judged to be refused. A line has
-# number, word, value, the wanted line (with | for tabs), and behind it what the page is changed to, `WORD VALUE` parted by commas.
+# number, word, value, the example whose page is changed, the wanted line (with | for tabs), and what the page is changed to, `WORD VALUE` parted by
+# commas.
 # Where no other level is left, as below a trip of 0, the order of the two is at fault and not the range.
 BEGIN { FS = "\t" }
-function out(value, wanted, more) { print ++number "\t" $1 "\t" value "\t" wanted "\t" $1 " " value more }
+function out(value, wanted, more) { print ++number "\t" $1 "\t" value "\t" of "\t" wanted "\t" $1 " " value more }
 function reads(value) { return value < 0 && $3 >= 0 ? value + 65536 : value }
 function past(value,    shown) {
     shown = reads(value)

@@ -1,25 +1,42 @@
 # REFERENCE.md against the programs: pages, protections, log, bus, refusals. Read by tests/people/run.
 
-# ---- every word of the page: its name, its range and its unit
-awk -f tests/people/words.awk "$made/table.Word" "$made/table.Part" "$made/table.p" | sort -n >"$made/words"
-says 'REFERENCE.md has every word of the page once' "$(awk 'BEGIN { for (w = 1; w < 63; w++) print w }')" "$(cut -f 1 "$made/words")"
-says 'the names of REFERENCE.md are those of sheet-names.txt' "$(sed -n '2,63p' docs/sheet-names.txt)" "$(cut -f 2 "$made/words")"
-while IFS='	' read -r word name least most unit refusal _; do
-    range=$least..$most
-    [ "$least" != "$most" ] || range=$least
-    [ "$unit" != - ] || unit=''
-    case $name in *' mask') unit='(bit 0 blocks charge, bit 1 blocks discharge)' ;; esac
-    printf 'word\t%s\t%s\t%s\n' "$word" "$name" "$range${unit:+ $unit}" >>"$made/explain.want"
-    ./keeper explain "$refusal" "$word" | grep '^word	' >>"$made/explain.got"
-done <"$made/words"
+# ---- every word of either page: its name, its range and its unit
+words_of() { # BYTES
+    awk -v bytes="$1" -f tests/people/words.awk "$made/table.Page" "$made/table.Word" "$made/table.Part" "$made/table.p" | sort -n >"$made/words.$1"
+}
+# What explain must say of a word: which page it speaks of, where the two pages differ.
+explained() { # BYTES
+    while IFS='	' read -r word name least most unit refusal _; do
+        range=$least..$most
+        [ "$least" != "$most" ] || range=$least
+        [ "$unit" != - ] || unit=''
+        case $name in *' mask') unit='(bit 0 blocks charge, bit 1 blocks discharge)' ;; esac
+        page=''
+        [ "$word" -lt 56 ] || page="	of a page of $1 bytes"
+        printf 'word\t%s\t%s\t%s\n' "$word" "$name" "$range${unit:+ $unit}$page" >>"$made/explain.want"
+        ./keeper explain "$refusal" "$word" | grep "^word	$word	$name	" >>"$made/explain.got"
+    done
+}
+before=0
+for bytes in 128 160; do
+    words_of "$bytes"
+    last=$((bytes / 2 - 1))
+    says "REFERENCE.md has every word of the page of $bytes bytes once" "$(awk -v last="$last" 'BEGIN { for (w = 1; w < last; w++) print w }')" "$(cut -f 1 "$made/words.$bytes")"
+    says "the names of the page of $bytes bytes are those of sheet-names.txt" "$(sed -n "$((before + 2)),$((before + last))p" docs/sheet-names.txt)" "$(cut -f 2 "$made/words.$bytes")"
+    before=$((before + last + 1))
+done
+explained 128 <"$made/words.128"
+sed -n '56,$p' "$made/words.160" >"$made/words.cold"
+explained 160 <"$made/words.cold"
 same 'explain says of each word what REFERENCE.md says' "$made/explain.got" "$made/explain.want"
 
-awk -f tests/people/ends.awk "$made/words" >"$made/ends"
+{ awk -v of=worked -f tests/people/ends.awk "$made/words.128"; awk -v of=winter -f tests/people/ends.awk "$made/words.cold"; } |
+    awk -F '\t' -v OFS='\t' '{ $1 = NR; print }' >"$made/ends"
 # Every second case. What is not as wanted is left in a file.
 judge_ends() { # HALF
     awk -v half="$1" 'NR % 2 == half' "$made/ends" >"$made/ends.$1"
-    while IFS='	' read -r number word value wanted changes; do
-        printf '%s\n' "$changes" | tr ',' '\n' | page_with worked >"$made/judged/$number.page"
+    while IFS='	' read -r number word value of wanted changes; do
+        printf '%s\n' "$changes" | tr ',' '\n' | page_with "$of" >"$made/judged/$number.page"
         got=$(./keeper judge "$made/judged/$number.page" 2>&1)
         status=$?
         got=$(printf '%s' "$got" | tr '\t' '|')
@@ -40,14 +57,22 @@ none "$(wc -l <"$made/ends") ends of ranges, and one past each, are judged as RE
 # ---- the protections: each by itself, at its levels and one beside them, with masks that differ
 offset=$(sed -n 's/.*stands for 10 × C + \([0-9.]*\) tenths.*/\1/p' docs/REFERENCE.md)
 awk -v offset="$offset" -f tests/people/protections.awk "$made/table.p" "$made/table.Mode" >"$made/protections"
+# The protections of the page of 128 bytes are tried under it too: the words of the other two are left out.
 while IFS='	' read -r p words log want; do
     printf '%s\n' "$words" | tr ',' '\n' >"$made/p$p.words"
     printf '%s\n' "$log" | tr ',;' '\n\t' >"$made/p$p.log"
     printf '%s\n' "$want" | tr ',;' '\n\t' >"$made/p$p.want"
-    "$history" mkpage <"$made/p$p.words" >"$made/p$p.page"
-    ./keeper replay "$made/p$p.page" "$made/p$p.log" | cut -f 2,3,5 | sed 1d >"$made/p$p.got"
-    same "protection $p as REFERENCE.md has it: levels, bit, mode, mask" "$made/p$p.got" "$made/p$p.want"
+    for bytes in 160 128; do
+        [ "$bytes" -eq 160 ] || [ "$p" -lt 8 ] || continue
+        awk -v bytes="$bytes" '$1 < bytes / 2 - 8 || bytes > 128' "$made/p$p.words" | "$history" mkpage >"$made/p$p.page"
+        ./keeper replay "$made/p$p.page" "$made/p$p.log" | cut -f 2,3,5 | sed 1d >"$made/p$p.got"
+        same "protection $p in a page of $(wc -c <"$made/p$p.page" | tr -d ' ') bytes as REFERENCE.md has it: levels, bit, mode, mask" "$made/p$p.got" "$made/p$p.want"
+    done
 done <"$made/protections"
+for bytes in 128 160; do
+    says "as many protections in a page of $bytes bytes" "$(awk -F '\t' -v bytes="$bytes bytes" '$1 == bytes { split($3, f, " "); sub(/.*[.]/, "", f[1]); print f[1] + 1 }' "$made/table.Page")" \
+        "$(awk -F '\t' -v bytes="$bytes" '$1 == "page" && $2 == bytes { print $4 }' docs/tables.txt)"
+done
 
 # ---- the bus: what is answered after some logs, word by word
 bus() { # WHAT WORDS PAGE LOG
@@ -61,7 +86,7 @@ head -n 11 tests/examples/tour.log >"$made/charging.log"
 head -n 100 tests/examples/tour.log >"$made/full.log"
 bus 'the bus while two cells are bled' tests/examples/tour.words tests/examples/tour.page "$made/charging.log"
 bus 'the bus with over voltage raised' tests/examples/tour.words tests/examples/tour.page "$made/full.log"
-for p in 1 3 4 6 7; do
+for p in 1 3 4 6 7 8 9; do
     head -n 4 "$made/p$p.log" >"$made/raised.log"
     bus "the bus with protection $p raised" "$made/p$p.words" "$made/p$p.page" "$made/raised.log"
 done
@@ -91,7 +116,7 @@ rm -f "$made/tick.log"
 # ---- the refusals: the text of each, and each of them given by the program that the table names
 says 'explain lists the refusals of REFERENCE.md' "$(cut -f 1-3 "$made/table.No")" "$(./keeper explain)"
 says 'explain names the words that a refusal may name' "$(awk -F '\t' '$4 != "" { print $4 }' "$made/table.No")" \
-    "$(for n in 1 2 3 4 5 6 7 8; do ./keeper explain "$n" | sed -n 's/^words	//p'; done)"
+    "$(for n in 1 2 3 4 5 6 7 8; do ./keeper explain "$n" | awk -F '\t' '$1 == "words" { sub(/of a page of /, "", $3); text = text (text == "" ? "" : "; ") $2 ($3 == "" ? "" : " (" $3 ")") } END { print text }'; done)"
 page=tests/examples/tour.page
 head -c 127 "$page" >"$made/n1.page"
 dd conv=swab if="$page" of="$made/n2.page" 2>/dev/null

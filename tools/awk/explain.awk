@@ -13,7 +13,7 @@ function words_named(n, l) {
     if (n == 5) return (words_before + 1) "..15, " (16 + 5 * page_protections[l]) ".." page_last[l]
     if (n == 6) return "1.." words_before
     if (n == 7) return "16.." (15 + 5 * page_protections[l])
-    return "16, 21 .. " (11 + 5 * page_protections[l]) " (the trip words)"
+    return "16, 21 .. " (11 + 5 * page_protections[l])
 }
 
 # Whether a refusal of a page can name the word.
@@ -26,15 +26,29 @@ function may_name(n, l, w,    p) {
     return w > 0 && named_by == n
 }
 
-function about_word(n, w,    l, p) {
-    l = layouts
-    if (w !~ /^(0|[1-9][0-9]*)$/ || length(w) > 4 || w + 0 > page_last[l]) wrong("a page has words 0 to " page_last[l] ", and '" shown(w) "' is none of them")
+# Behind what differs from page to page: which page it is said of.
+function of_page(l) { return "\tof a page of " page_bytes[l] " bytes" }
+
+# A line for every page, or one where all say the same.
+function each_layout(first, text,    l, alike) {
+    alike = 1
+    for (l = first + 1; l <= layouts; l++) if (text[l] != text[first]) alike = 0
+    for (l = first; l <= (alike ? first : layouts); l++) print text[l] (alike && first == 1 ? "" : of_page(l))
+}
+
+function about_word(n, w,    l, first, text, named, p) {
+    if (w !~ /^(0|[1-9][0-9]*)$/ || length(w) > 4 || w + 0 > page_last[layouts]) wrong("a page has words 0 to " page_last[layouts] ", and '" shown(w) "' is none of them")
     w += 0
-    print "word\t" w "\t" name_of(l, w) "\t" allowed(l, w)
-    p = protection_of(l, w)
-    if (p >= 0) print "protection\t" p "\t" protection_name(p) "\t" quantity[p] ", trips " trips[p]
+    for (first = 1; w > page_last[first]; first++) continue
+    for (l = first; l <= layouts; l++) {
+        text[l] = "word\t" w "\t" name_of(l, w) "\t" allowed(l, w)
+        if (may_name(n, l, w)) named = 1
+    }
+    each_layout(first, text)
+    p = protection_of(layouts, w)
+    if (p >= 0) print "protection\t" p "\t" protection_name(p) "\t" quantity[p] ", trips " trips[p] (protection_of(1, w) < 0 ? of_page(layouts) : "")
     if (refuses[n] != "page") print "note\trefusal " n " is of a " refuses[n] " and names no word of the page"
-    else if (!may_name(n, l, w)) print "note\trefusal " n " never names word " w (n < 5 ? "; it names word 0" : "")
+    else if (!named) print "note\trefusal " n " never names word " w (n < 5 ? "; it names word 0" : "")
 }
 
 function shown(text) { gsub(/[^ -~]/, "?", text); return substr(text, 1, 40) }
@@ -49,7 +63,10 @@ BEGIN {
     if (n !~ /^[1-9][0-9]*$/ || !((n + 0) in refuses) || length(n) > 4) wrong("the refusals are numbered 1 to " refusals ", and '" shown(n) "' is none of them")
     n += 0
     print n "\t" refuses[n] "\t" filled(meaning[n])
-    if (refuses[n] == "page") for (l = 1; l <= layouts; l++) print "words\t" words_named(n, l) (layouts > 1 ? "\tof a page of " page_bytes[l] " bytes" : "")
+    if (refuses[n] == "page") {
+        for (l = 1; l <= layouts; l++) named_words[l] = "words\t" words_named(n, l)
+        each_layout(1, named_words)
+    }
     if (w != "") about_word(n, w)
     print "mend\t" filled(mend[n])
 }

@@ -30,10 +30,16 @@ function wrong_length(    i, text) {
     return text " (all of it is text; a page is raw bytes)"
 }
 
+# What a page with a strange mark is: one of another length, if it has that one's mark.
+function no_mark(    l) {
+    for (l = 1; l <= layouts; l++) if (page_mark[l] == word_at(0)) return "that is the mark of a page of " page_bytes[l] " bytes, so this one was cut or padded"
+    return "this is no settings page"
+}
+
 function sentence(n, w) {
     if (n == 1) return wrong_length()
     if (n == 2) return "mark is " hex(word_at(0)) ", allowed " hex(swapped(word_at(0))) ": its bytes are swapped, and so are probably those of every word"
-    if (n == 3) return "mark is " hex(word_at(0)) ", allowed " allowed(layout, 0) ": this is no settings page"
+    if (n == 3) return "mark is " hex(word_at(0)) ", allowed " allowed(layout, 0) " in a page of " bytes " bytes: " no_mark()
     if (n == 4) return sprintf("check byte is 0x%02X, allowed 0x%s: the page was damaged, or changed without a new check byte", byte[bytes - 1], toupper(ENVIRON["KEEPER_RIGHT"]))
     if (n == 5 && w == page_last[layout]) return "byte " 2 * w " (low byte of word " w ") is " byte[2 * w] ", allowed 0"
     if (n == 5 || n == 6 || n == 7) return out_of_range(w)
