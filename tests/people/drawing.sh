@@ -27,9 +27,18 @@ says 'the bars of the bled cells' "$(bits 4 7)" "$(drawn bled | lengths)"
 says 'the bars of the raised protections' "$(bits 2 8)" "$(drawn raised | lengths)"
 says 'the bars of the switches' "$(bits 3 2)" "$(drawn switches | lengths)"
 says 'the floor' 1 "$(grep -c '^plot .*, 3900 with lines .*floor' "$made/program")"
-says 'the names of the protections' "$(head -n 8 "$made/table.p" | cut -f 2)" "$(sed -n "s/^set ytics (\('over voltage'.*\)) .*/\1/p" "$made/program" | tr ',' '\n' | sed "s/^ *'\(.*\)' .*/\1/")"
+# The names at the left of the panel of protections.
+names_drawn() { sed -n "s/^set ytics (\('over voltage'.*\)) .*/\1/p" "$1" | tr ',' '\n' | sed "s/^ *'\(.*\)' .*/\1/"; }
+says 'the names of the protections' "$(head -n 8 "$made/table.p" | cut -f 2)" "$(names_drawn "$made/program")"
 cat "$log" | PATH=$here/$made/keeping:$PATH KEPT=$here/$made/program.pipe ./keeper plot "$page" - "$made/kept.svg"
 says 'a log from standard input is drawn the same' "$(sed 's/tour.log, page/standard input, page/' "$made/program")" "$(cat "$made/program.pipe")"
+
+# ---- a page of 160 bytes: ten protections, the cold ones at the bottom
+PATH=$here/$made/keeping:$PATH KEPT=$here/$made/program.winter ./keeper plot tests/examples/winter.page tests/examples/winter.log "$made/kept.svg"
+says 'a page of 160 bytes has the names of ten protections' "$(cut -f 2 "$made/table.p")" "$(names_drawn "$made/program.winter")"
+says 'the bars of the cold protections' \
+    "$(awk -F '\t' 'NR == FNR { line[NR] = $0; next } $1 != "refused" && FNR > 1 && line[FNR - 1] ~ /^S/ { n[1] += int($2 / 256) % 2; n[0] += int($2 / 512) % 2 } END { print 0, n[0]; print 1, n[1] }' tests/examples/winter.log tests/examples/winter.out)" \
+    "$(awk -v head="\$raised << END" '$0 == head { on = 1; next } $0 == "END" { on = 0 } on' "$made/program.winter" | lengths)"
 
 # ---- a long log is thinned and says so; nothing of it is lost: a cell's one deep dip, a short raise, a moment off
 awk 'BEGIN {
