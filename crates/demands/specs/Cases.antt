@@ -1,14 +1,14 @@
 -- Computed cases, through load, sample and command: document 01's replay example as decisions, the limits of a sample, counts, commands,
--- the modes one after the other, and masks of 0.
+-- the modes one after the other, masks of 0, and a page of 160 bytes in the cold.
 -- Assumes nothing.
 use mathlib.Core.Path.{_≡_, refl, ap}
 use mathlib.Core.Bool.{cond}
 use mathlib.Core.List.{List, [], _∷_, _++_}
 use Prim.Native.Nat.{ℕ, _+_, _-_, _*_}
 use lib.IntN.{ℤ, pos}
-use lib.ListN.{replicate}
+use lib.ListN.{take, replicate}
 use Rattle.units.specs.Levels.{level}
-use Rattle.page_judge.specs.Worked.{Change, workedPage, pageWith, put}
+use Rattle.page_judge.specs.Worked.{Change, workedPage, longPage, pageWith, longWith, put}
 use Rattle.refusals.specs.Answers.{answerOf}
 use Rattle.sample.specs.Cases as sample
 use Rattle.sample.specs.Cases.{belowZero}
@@ -16,8 +16,8 @@ use Rattle.protections.specs.declared.Limits.{Limits}
 use Rattle.refusals.specs.declared.Verdict.the-variants.{Accepted}
 use Rattle.page_settings.specs.declared.Settings.{Settings}
 use Rattle.page_settings.specs.declared.Loaded.{Loaded}
-use Rattle.page_settings.specs.Settings.{noSettings, loadedOf}
-use Rattle.page_settings.specs.Cases.{workedRules, worked, worked-loaded}
+use Rattle.page_settings.specs.Settings.{absent, noSettings, loadedOf}
+use Rattle.page_settings.specs.Cases.{workedRules, worked, worked-loaded, winter, winter-loaded}
 use Rattle.pack_state.specs.declared.Pack.{Pack}
 use Rattle.pack.specs.declared.Answered.{Answered}
 use Rattle.pack.specs.Events.{Event, offer, command, accepts}
@@ -173,6 +173,8 @@ reporting =
           ∷ reports (pos 3182) (pos 3131)
           ∷ reports (pos 3332) (pos 3281)
           ∷ reports (pos 3532) (pos 3431)
+          ∷ absent
+          ∷ absent
           ∷ [];
     }
 
@@ -209,7 +211,8 @@ modeCases =
     ∷ [])
 
 -- Request 02: at the two tenths beside each temperature limit of that page. 45 and 40 degrees trip and release 5, 60 and 55 degrees 6, 80 and
--- 70 degrees 7: a trip of C degrees needs 10 × C + 2732 or more, a release 10 × C + 2731 or less.
+-- 70 degrees 7: a trip of C degrees needs 10 × C + 2732 or more, a release 10 × C + 2731 or less. The last sample is as cold as one may be:
+-- the page has 128 bytes, and 8 and 9 do not rise.
 abbrev degreeCases : Case
 degreeCases =
     case
@@ -225,6 +228,7 @@ degreeCases =
     ∷ sampled (pos 0) 2980 3532 (4000 ∷ 4000 ∷ [])
     ∷ sampled (pos 0) 2980 3432 (4000 ∷ 4000 ∷ [])
     ∷ sampled (pos 0) 2980 3431 (4000 ∷ 4000 ∷ [])
+    ∷ sampled (pos 0) 2000 2980 (4000 ∷ 4000 ∷ [])
     ∷ []))
     ((1 ∷ 0 ∷ 0 ∷ 0 ∷ 0x02 ∷ [])
     ∷ (2 ∷ 32 ∷ 0 ∷ 0 ∷ 0x10 ∷ [])
@@ -237,15 +241,83 @@ degreeCases =
     ∷ (9 ∷ 128 ∷ 0 ∷ 0 ∷ 0x16 ∷ [])
     ∷ (10 ∷ 128 ∷ 0 ∷ 0 ∷ 0x16 ∷ [])
     ∷ (11 ∷ 0 ∷ 0 ∷ 0 ∷ 0x02 ∷ [])
+    ∷ (12 ∷ 0 ∷ 0 ∷ 0 ∷ 0x02 ∷ [])
+    ∷ [])
+
+-- Request 07, on the page of 160 bytes: 8 trips at 0 degrees, so at 2731 tenths and not at 2732, here with N 2 and mask 1. It stops
+-- bleeding, and has no mode.
+abbrev coldCases : Case
+coldCases =
+    case
+    (answers (freshPack winter)
+    (command 3
+    ∷ sampled (pos 500) 2732 2980 (4000 ∷ 4020 ∷ [])
+    ∷ sampled (pos 500) 2731 2980 (4000 ∷ 4020 ∷ [])
+    ∷ sampled (pos 500) 2731 2980 (4000 ∷ 4020 ∷ [])
+    ∷ sampled (pos 500) 2782 2980 (4000 ∷ 4020 ∷ [])
+    ∷ []))
+    ((0 ∷ 0 ∷ 0 ∷ 0 ∷ 0 ∷ [])
+    ∷ (1 ∷ 0 ∷ 3 ∷ 2 ∷ 0x03 ∷ [])
+    ∷ (2 ∷ 0 ∷ 3 ∷ 2 ∷ 0x03 ∷ [])
+    ∷ (3 ∷ 256 ∷ 2 ∷ 0 ∷ 0x03 ∷ [])
+    ∷ (4 ∷ 256 ∷ 2 ∷ 0 ∷ 0x03 ∷ [])
+    ∷ [])
+
+-- The same page with N 1 and M 1 for 8 and 9. 9 trips at -10 degrees and is released at -5, so at 2682; mask 2. 8 is released at 5
+-- degrees, so at 2782 and not at 2781.
+abbrev quick : Settings
+quick =
+    record {
+      rules = workedRules;
+      limits =
+          take 8 (winter .limits)
+          ++ record { trip = level (pos 2731); release = level (pos 2782); n = 1; m = 1; mask = 1 }
+          ∷ record { trip = level (pos 2631); release = level (pos 2682); n = 1; m = 1; mask = 2 }
+          ∷ [];
+    }
+
+abbrev quickCases : Case
+quickCases =
+    case
+    (answers (freshPack quick)
+    (command 3
+    ∷ sampled (pos 0) 2632 2980 (4000 ∷ 4000 ∷ [])
+    ∷ sampled (pos 0) 2631 2980 (4000 ∷ 4000 ∷ [])
+    ∷ sampled (pos 0) 2682 2980 (4000 ∷ 4000 ∷ [])
+    ∷ sampled (pos 0) 2781 2980 (4000 ∷ 4000 ∷ [])
+    ∷ sampled (pos 0) 2782 2980 (4000 ∷ 4000 ∷ [])
+    ∷ []))
+    ((0 ∷ 0 ∷ 0 ∷ 0 ∷ 0 ∷ [])
+    ∷ (1 ∷ 256 ∷ 2 ∷ 0 ∷ 0x02 ∷ [])
+    ∷ (2 ∷ 768 ∷ 0 ∷ 0 ∷ 0x02 ∷ [])
+    ∷ (3 ∷ 256 ∷ 2 ∷ 0 ∷ 0x02 ∷ [])
+    ∷ (4 ∷ 256 ∷ 2 ∷ 0 ∷ 0x02 ∷ [])
+    ∷ (5 ∷ 0 ∷ 3 ∷ 0 ∷ 0x02 ∷ [])
     ∷ [])
 
 abbrev pub cases : List Case
-cases = replay ∷ limitCases ∷ countCases ∷ commandCases ∷ pagelessCases ∷ modeCases ∷ degreeCases ∷ []
+cases = replay ∷ limitCases ∷ countCases ∷ commandCases ∷ pagelessCases ∷ []
 
--- Every case gives what it is to give.
+-- Every case gives what it is to give; the long ones are computed one by one.
 pub cases-pass : gotAll cases ≡ rightAll cases
 unfolding computed
 cases-pass = refl
+
+pub modes-pass : modeCases .got ≡ modeCases .right
+unfolding computed
+modes-pass = refl
+
+pub degrees-pass : degreeCases .got ≡ degreeCases .right
+unfolding computed
+degrees-pass = refl
+
+pub cold-pass : coldCases .got ≡ coldCases .right
+unfolding computed
+cold-pass = refl
+
+pub quick-pass : quickCases .got ≡ quickCases .right
+unfolding computed
+quick-pass = refl
 
 -- Of an accepted sample, a refused one and a command only the first is listed.
 pub listed : shownWords workedPage (command 3 ∷ charged (4100 ∷ []) ∷ charged (4000 ∷ 4020 ∷ []) ∷ []) ≡ 2 ∷ []
@@ -271,6 +343,13 @@ lines-said = refl
 
 pub worked-is : pageOf workedPage ≡ worked
 worked-is = ap (λ (l : Loaded). l .settings) worked-loaded
+
+pub winter-is : pageOf longPage ≡ winter
+winter-is = ap (λ (l : Loaded). l .settings) winter-loaded
+
+pub quick-is : loadedOf (longWith (put 58 1 ∷ put 59 1 ∷ put 63 1 ∷ put 64 1 ∷ [])) ≡ record { verdict = Accepted; settings = quick }
+unfolding computed
+quick-is = refl
 
 -- Protection p with these two words for its levels, N 1, M 1 and mask 0.
 abbrev reporter : ℕ → ℕ → ℕ → List Change

@@ -13,18 +13,19 @@ use lib.Count.{ones}
 use lib.ListN.{length, drop, getD}
 use Rattle.laws.specs.Bits.{hasBit}
 use Rattle.laws.specs.Latest.{lastAll, among, lastAll-le, among-le}
-use Rattle.protections.specs.Table.{rowAt, protections}
+use Rattle.laws.specs.Words.{bitsOf}
+use Rattle.protections.specs.Table.{rowAt}
 use Rattle.refusals.specs.Refusals.{NoFault, Lowest}
 use Rattle.refusals.specs.declared.Verdict.the-variants.{Accepted, Refused}
 use Rattle.page_words.specs.Ranges.{wordAt}
 use Rattle.page_judge.specs.Page.{refusals, judged}
 use Rattle.page_judge.specs.Exactly as page
 use Rattle.page_judge.specs.Swapped.{swapped, swapped-refused}
-use Rattle.page_settings.specs.Settings.{limitsFrom}
-use Rattle.page_settings.specs.Good.{Good, accepted-good}
+use Rattle.page_settings.specs.Settings.{limitsFrom, pageProtections}
+use Rattle.page_settings.specs.Good.{Good, accepted-good, short-protections}
 use Rattle.sample.specs.declared.Sample.{Sample}
 use Rattle.sample.specs.Measure.{trips, qualifies}
-use Rattle.guard_raised.specs.Words.{raisedWordAfter}
+use Rattle.guard_raised.specs.Words.{raisedAfter, raisedWordAfter}
 use Rattle.bleed_wants.specs.Word.{holdsCell}
 use Rattle.bleed.specs.Walk.History.{wantsCell}
 use Rattle.pack_refusals.specs.Samples.{sampleRefusals, commandRefusals}
@@ -58,7 +59,7 @@ use Rattle.demands.specs.BledWords.{bledWordsAfter, words-fair, words-ru
 use Rattle.demands.specs.History.{story, replay-says}
 use Rattle.demands.specs.Shown.{shown, shownWords, samples, wanted, MayBeOn, word-1, word-2, word-3}
 use Rattle.demands.specs.Shown.{shown-is, shown-balance, shown-words, shown-each, raise-when, release-when, on-exactly, raised-stops}
-use Rattle.demands.specs.Shown.{clear-at-load, command-raises-none}
+use Rattle.demands.specs.Shown.{never-shown, raised-own, clear-at-load, command-raises-none}
 use Rattle.demands.specs.TooFew.{waiting, too-few}
 use Rattle.demands.specs.TwoCells.{two-suffice}
 use Rattle.demands.specs.Written.{pageFor}
@@ -197,7 +198,8 @@ module _ (bytes : List ℕ) (es : List Event) where
       → bufferOf (after bytes es) c buffer ≡ bufferAfter (pageOf bytes) (pastAfter bytes es) c buffer
   demand-2-buffer = bus.buffer-is bytes es
 
-  module _ (s : Sample) (taken : offered (after bytes es) s .verdict ≡ Accepted) (p : ℕ) (inside : p < protections) where
+  -- For each protection that the page has: of a page of any length once, over its own number of protections.
+  module _ (s : Sample) (taken : offered (after bytes es) s .verdict ≡ Accepted) (p : ℕ) (inside : p < pageProtections bytes) where
     -- ---- "A clear protection is raised exactly when its last N samples all trip,"
 
     -- At one more accepted sample, the latest of the last N. N is word 18 + 5p of the page.
@@ -213,6 +215,20 @@ module _ (bytes : List ℕ) (es : List Event) where
         → hasBit (shown bytes (offer s ∷ es) .raised) p
         ≡ not (lastAll (wordAt bytes (19 + 5 * p)) (qualifies (rowAt p) (limitsFrom bytes p)) (samples bytes (offer s ∷ es)))
     demand-2-released = release-when bytes es s taken p inside
+
+  -- Document 02: "On a 128-byte page 8 and 9 never rise." No protection that the page does not have is ever shown as raised,
+  pub demand-2-never-rises : (p : ℕ) → pageProtections bytes ≤ p → hasBit (shown bytes es .raised) p ≡ false
+  demand-2-never-rises = never-shown bytes es
+
+  -- 8 and 9 of a page of 128 bytes among them;
+  pub demand-2-short-page : length bytes ≡ 128 → (hasBit (shown bytes es .raised) 8 ≡ false) × (hasBit (shown bytes es .raised) 9 ≡ false)
+  demand-2-short-page short =
+      let own = short-protections bytes short in
+      (never-shown bytes es 8 (omega arith), never-shown bytes es 9 (omega arith))
+
+  -- the raised field is the word over the page's own.
+  pub demand-2-own-number : shown bytes es .raised ≡ bitsOf (raisedAfter (pageOf bytes .limits) (samples bytes es)) (pageProtections bytes)
+  demand-2-own-number = raised-own bytes es
 
   -- At the load all are clear, and neither a refused sample (`demand-1-sample-untouched`) nor a command raises or releases one.
   pub demand-2-clear-at-load : shown bytes [] .raised ≡ 0

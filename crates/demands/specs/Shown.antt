@@ -5,16 +5,17 @@ use mathlib.Core.Path.{_≡_, refl, sym, ap, ap₂, _∙_}
 use mathlib.Core.Bool.{Bool, true, false, not, cond, _&&_, true≢false}
 use mathlib.Core.List.{List, [], _∷_, map}
 use mathlib.Core.Logic.{_↔_}
-use Prim.Native.Nat.{ℕ, zero, suc, _+_, _*_, _<_}
+use Prim.Native.Nat.{ℕ, zero, suc, _+_, _*_, _≤_, _<_}
 use native.Mathlib.Nat.{zero-lt-suc}
 use native.Mathlib.Omega.{arith}
 use lib.ListN.{length}
 use borrow.Author.Tests.{not-true, ne-eqb}
-use Rattle.laws.specs.Tests.{by-test, clash, and-left, and-right}
+use Rattle.laws.specs.Tests.{by-test, by-order, clash, and-left, and-right}
 use Rattle.laws.specs.Bits.{hasBit, withBitIf}
 use Rattle.laws.specs.Latest.{lastAll}
 use Rattle.protections.specs.Table.{rowAt, protections}
 use Rattle.protections.specs.declared.Limits.{Limits}
+use Rattle.protections.specs.declared.Row.{Row}
 use Rattle.page_words.specs.Ranges.{wordAt}
 use Rattle.page_judge.specs.Page.{judged}
 use Rattle.refusals.specs.declared.Verdict.{Verdict}
@@ -23,11 +24,11 @@ use Rattle.sample.specs.declared.Sample.{Sample}
 use Rattle.sample.specs.Measure.{trips, qualifies}
 use Rattle.protections.specs.Limits.{limitsAt}
 use Rattle.guard.specs.Steps.{raised, raised-when, released-when}
-use Rattle.laws.specs.Words.{bitsOf, anyOf, any-yes}
-use Rattle.guard_raised.specs.Words.{raisedAfter, raisedWordAfter, anyRaisedAfter, blocksAfter, raisedWordAfter-has, anyRaisedAfter-word}
+use Rattle.laws.specs.Words.{bitsOf, anyOf, any-yes, bits-past}
+use Rattle.guard_raised.specs.Words.{raisedAfter, raisedWordAfter, anyRaisedAfter, blocksAfter, raisedWordAfter-has, raisedWordAfter-short, anyRaisedAfter-word}
 use Rattle.page_settings.specs.declared.Settings.{Settings}
-use Rattle.page_settings.specs.Settings.{limitsFrom, settingsOf, rulesOf, noSettings, loadedWith, loadedOf}
-use Rattle.page_settings.specs.Good.{limits-at}
+use Rattle.page_settings.specs.Settings.{limitsFrom, pageProtections, settingsOf, rulesOf, noSettings, loadedWith, loadedOf}
+use Rattle.page_settings.specs.Good.{limits-own, most-protections}
 use Rattle.bleed_wants.specs.Wants.{isCharging, wants}
 use Rattle.bleed_wants.specs.Steps.{wishes}
 use Rattle.bleed.specs.Walk.Walk.{order}
@@ -39,6 +40,7 @@ use Rattle.pack_refusals.specs.Samples.{sampleVerdict, commandVerdict, trimmed}
 use Rattle.pack_refusals.specs.SampleLaws.{sample-none}
 use Rattle.pack_state.specs.declared.Pack.{Pack}
 use Rattle.pack_state.specs.Past.{past}
+use Rattle.pack_state.specs.Absent.{never-rises}
 use Rattle.pack_state.specs.State.{wishAt, wishesAfter, bledsAfter, bledAfter, anySample}
 use Rattle.pack.specs.declared.Answered.{Answered}
 use Rattle.pack.specs.Events.{Event, offer, command, accepts, withEvent, pastOf}
@@ -49,7 +51,7 @@ use Rattle.pack.specs.After.{after, after-is}
 use Rattle.pack_shown.specs.declared.Decision.{Decision}
 use Rattle.pack_shown.specs.Shown.{switchAfter, switchesWord, decisionAfter, decisionOf}
 use Rattle.pack_shown.specs.Decided.{decision-is}
-use Rattle.bus_words.specs.Demands.{switch-bits}
+use Rattle.bus_words.specs.Demands.{own-bit}
 use Rattle.demands.specs.BledWords.{bledWordsAfter}
 
 -- ---- what is shown
@@ -175,10 +177,10 @@ module _ (bytes : List ℕ) (taken : judged bytes ≡ Accepted) where
   unfolding settingsOf rulesOf
   word-3 = rw (page-accepted bytes taken)
 
-  module _ (p : ℕ) (inside : p < protections) where
+  module _ (p : ℕ) (inside : p < pageProtections bytes) where
     limits-are : limitsAt (pageOf bytes .limits) p ≡ limitsFrom bytes p
     unfolding settingsOf
-    limits-are = rw (page-accepted bytes taken) (limits-at bytes p inside)
+    limits-are = rw (page-accepted bytes taken) (limits-own bytes p inside)
 
     -- N, M and the mask of protection p are words 18 + 5p, 19 + 5p and 20 + 5p.
     word-n : limitsAt (pageOf bytes .limits) p .n ≡ wordAt bytes (18 + 5 * p)
@@ -208,6 +210,37 @@ unfolding decisionAfter
 raised-bit bytes es p inside =
     ap (λ (d : Decision). hasBit (d .raised) p) (shown-is bytes es) ∙ raisedWordAfter-has (pageOf bytes .limits) (samples bytes es) p inside
 
+-- Without a sample nothing is raised.
+none-yet : (row : Row) (l : Limits) (h : List Sample) → (0 < length h → raised row l h ≡ false) → raised row l h ≡ false
+unfolding raised
+none-yet row l [] f = refl
+none-yet row l (s ∷ h) f = f (zero-lt-suc (length h))
+
+-- A protection that the page does not have is never raised, whatever the bytes and the calls are: "On a 128-byte page 8 and 9 never rise."
+pub never-after : (bytes : List ℕ) (es : List Event) (p : ℕ) → pageProtections bytes ≤ p → p < protections
+    → raisedAfter (pageOf bytes .limits) (samples bytes es) p ≡ false
+unfolding settingsOf
+never-after bytes es p past inside =
+    none-yet (rowAt p) (limitsAt (pageOf bytes .limits) p) (samples bytes es) (λ some.
+    rw (page-accepted bytes (samples-page bytes es some)) (never-rises bytes (samples bytes es) p past inside))
+
+-- Nor is its bit ever shown.
+pub never-shown : (bytes : List ℕ) (es : List Event) (p : ℕ) → pageProtections bytes ≤ p → hasBit (shown bytes es .raised) p ≡ false
+unfolding decisionAfter raisedWordAfter
+never-shown bytes es p past =
+    by-order p protections
+    (λ inside. raised-bit bytes es p inside ∙ never-after bytes es p past inside)
+    (λ out. ap (λ (d : Decision). hasBit (d .raised) p) (shown-is bytes es)
+    ∙ bits-past (raisedAfter (pageOf bytes .limits) (samples bytes es)) protections p out)
+
+-- So the raised field is the word over the page's own protections.
+pub raised-own : (bytes : List ℕ) (es : List Event)
+    → shown bytes es .raised ≡ bitsOf (raisedAfter (pageOf bytes .limits) (samples bytes es)) (pageProtections bytes)
+unfolding decisionAfter
+raised-own bytes es =
+    ap (λ (d : Decision). d .raised) (shown-is bytes es)
+    ∙ raisedWordAfter-short (pageOf bytes .limits) (samples bytes es) (pageProtections bytes) (most-protections bytes) (never-after bytes es)
+
 -- At the load nothing is raised.
 pub clear-at-load : (bytes : List ℕ) → shown bytes [] .raised ≡ 0
 unfolding decisionAfter pastOf raisedWordAfter raised bitsOf withBitIf
@@ -221,9 +254,12 @@ command-raises-none bytes es c =
     ∙ ap (raisedWordAfter (pageOf bytes .limits)) (samples-command bytes es c)
     ∙ sym (ap (λ (d : Decision). d .raised) (shown-is bytes es))
 
--- At an accepted sample.
+-- At an accepted sample, for a protection that the page has.
 module _ (bytes : List ℕ) (es : List Event) (s : Sample) (taken : offered (after bytes es) s .verdict ≡ Accepted)
-    (p : ℕ) (inside : p < protections) where
+    (p : ℕ) (own : p < pageProtections bytes) where
+  inside : p < protections
+  inside = let most = most-protections bytes in omega arith
+
   abbrev l : Limits
   l = limitsAt (pageOf bytes .limits) p
 
@@ -243,7 +279,7 @@ module _ (bytes : List ℕ) (es : List Event) (s : Sample) (taken : offered (aft
       now
       ∙ raised-when (rowAt p) l (trimmed s) (samples bytes es) (sym (raised-bit bytes es p inside) ∙ e)
       ∙ ap (lastAll (l .n) (trips (rowAt p) l)) (sym (samples-with bytes es s taken))
-      ∙ ap₂ (λ (n : ℕ) (test : Sample → Bool). lastAll n test latest) (word-n bytes accepted p inside) (tripping bytes accepted p inside)
+      ∙ ap₂ (λ (n : ℕ) (test : Sample → Bool). lastAll n test latest) (word-n bytes accepted p own) (tripping bytes accepted p own)
 
   -- A raised one is released exactly if its last M all qualify.
   pub release-when : hasBit (shown bytes es .raised) p ≡ true
@@ -253,14 +289,9 @@ module _ (bytes : List ℕ) (es : List Event) (s : Sample) (taken : offered (aft
       now
       ∙ released-when (rowAt p) l (trimmed s) (samples bytes es) (sym (raised-bit bytes es p inside) ∙ e)
       ∙ ap (λ (h : List Sample). not (lastAll (l .m) (qualifies (rowAt p) l) h)) (sym (samples-with bytes es s taken))
-      ∙ ap₂ (λ (m : ℕ) (test : Sample → Bool). not (lastAll m test latest)) (word-m bytes accepted p inside) (qualifying bytes accepted p inside)
+      ∙ ap₂ (λ (m : ℕ) (test : Sample → Bool). not (lastAll m test latest)) (word-m bytes accepted p own) (qualifying bytes accepted p own)
 
 -- ---- switches
-
-own-bit : (on : ℕ → Bool) (switch : ℕ) → switch < 2 → hasBit (switchesWord on) switch ≡ on switch
-own-bit on zero h = switch-bits on .0
-own-bit on (suc zero) h = switch-bits on .1
-own-bit on (suc (suc i)) h = absurd (omega arith)
 
 -- Bit 0 of the fets field is the charge switch, bit 1 the discharge switch.
 pub switch-bit : (bytes : List ℕ) (es : List Event) (switch : ℕ) → switch < 2
@@ -293,15 +324,15 @@ module _ (bytes : List ℕ) (es : List Event) (switch : ℕ) where
   abbrev commanded : Bool
   commanded = hasBit (pastAfter bytes es .standing) switch
 
-  -- A sample has been accepted, the switch's bit is commanded, and no protection whose bit is shown as raised has it in its mask, word
-  -- 20 + 5p of the page.
+  -- A sample has been accepted, the switch's bit is commanded, and no protection of the page whose bit is shown as raised has it in its
+  -- mask, word 20 + 5p of the page.
   abbrev pub MayBeOn : Type 0
   MayBeOn =
       (0 < length (samples bytes es))
       × (hasBit (pastAfter bytes es .standing) switch ≡ true)
-      × ((p : ℕ) → p < protections → hasBit (shown bytes es .raised) p ≡ true → hasBit (wordAt bytes (20 + 5 * p)) switch ≡ false)
+      × ((p : ℕ) → p < pageProtections bytes → hasBit (shown bytes es .raised) p ≡ true → hasBit (wordAt bytes (20 + 5 * p)) switch ≡ false)
 
-  mask-bit : 0 < length (samples bytes es) → (p : ℕ) → p < protections
+  mask-bit : 0 < length (samples bytes es) → (p : ℕ) → p < pageProtections bytes
       → hasBit (limitsAt (pageOf bytes .limits) p .mask) switch ≡ hasBit (wordAt bytes (20 + 5 * p)) switch
   mask-bit some p inside = ap (λ (m : ℕ). hasBit m switch) (word-mask bytes (samples-page bytes es some) p inside)
 
@@ -312,8 +343,11 @@ module _ (bytes : List ℕ) (es : List Event) (switch : ℕ) where
       let some = any-some (samples bytes es) (and-left sampled commanded a) in (
         some,
         and-right sampled commanded a,
-        λ p inside up. by-test (hasBit (wordAt bytes (20 + 5 * p)) switch)
-            (λ t. clash (any-yes blocks protections p inside (rw (sym (raised-bit bytes es p inside) ∙ up, mask-bit some p inside ∙ t))) none)
+        λ p own up.
+            let most = most-protections bytes in
+            let inside : p < protections = omega arith in
+            by-test (hasBit (wordAt bytes (20 + 5 * p)) switch)
+            (λ t. clash (any-yes blocks protections p inside (rw (sym (raised-bit bytes es p inside) ∙ up, mask-bit some p own ∙ t))) none)
             (λ t. t),
       )
 
@@ -323,7 +357,9 @@ module _ (bytes : List ℕ) (es : List Event) (switch : ℕ) where
         some-any (samples bytes es) (m .0),
         m .1,
         none-picked blocks protections (λ p inside. by-test (raisedAfter (pageOf bytes .limits) (samples bytes es) p)
-            (λ t. rw (t, mask-bit (m .0) p inside ∙ m .2 p inside (raised-bit bytes es p inside ∙ t)))
+            (λ t. by-order p (pageProtections bytes)
+            (λ own. rw (t, mask-bit (m .0) p own ∙ m .2 p own (raised-bit bytes es p inside ∙ t)))
+            (λ past. clash t (never-after bytes es p past inside)))
             (λ t. rw t)),
       )
 

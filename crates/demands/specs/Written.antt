@@ -16,7 +16,7 @@ use Rattle.page_faults.specs.Kinds.{kindOf}
 use Rattle.page_faults.specs.Met.{levelMet, orderMet, onRow, kindMeets, meets}
 use Rattle.page_judge.specs.Page.{refusals, judged}
 use Rattle.page_judge.specs.Worked.{pageWith, put}
-use Rattle.page_settings.specs.Settings.{inDegrees, sampleLevel, limitsFrom, limitsOf, rulesOf, settingsOf, noSettings, loadedOf}
+use Rattle.page_settings.specs.Settings.{inDegrees, sampleLevel, limitsFrom, limitsFor, limitsOf, rulesOf, settingsOf, noSettings, loadedOf}
 use Rattle.sample.specs.Cases as sample
 use Rattle.sample.specs.Cells.{bestOf, extremesOf}
 use Rattle.sample.specs.Measure.{measure}
@@ -55,7 +55,7 @@ pageFor n = pageWith (put 1 n ∷ put 2 1 ∷ put 3 1 ∷ [])
 
 -- All that a case computes with, from a page's bytes and events to what is shown: `unfolding computed` opens each of them.
 unfoldable pub computed : Unit {0}
-unfolding anyOf loadedOf settingsOf rulesOf limitsOf limitsFrom sampleLevel inDegrees levelOf signedOf judged refusals meets
+unfolding anyOf loadedOf settingsOf rulesOf limitsOf limitsFor limitsFrom sampleLevel inDegrees levelOf signedOf judged refusals meets
     kindOf kindMeets onRow levelMet orderMet wordAt within degreesFit levelFits rowAt table checkByte remainder withByte
     timesXs timesX afterLoad freshPack freshBalance offered commanded withCommand acceptedPack nextBalance wantAt nextTick
     decisionOf switchesOf modeOf modeOrder firstMode sampleVerdict sampleRefusals commandVerdict commandRefusals cellsFit

@@ -127,9 +127,11 @@ fn limits_from(page: &[u8], p: ProtectionNo) -> Limits
 fn absent_limits() -> Limits
     ensures { λ r. ⌜ r ≡ absent ⌝ }
 {
+    let trip = Level(-1);
+    let release = Level(0);
     Limits {
-        trip: Level(-1),
-        release: Level(0),
+        trip: trip,
+        release: release,
         n: 1,
         m: 1,
         mask: 0,

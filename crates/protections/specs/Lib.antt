@@ -1,4 +1,4 @@
--- To be believed: document 01's table of the eight protections, row by row.
+-- To be believed: document 01's table of protections, row by row, and document 02's two more.
 pub mod Table
 -- To be believed: what "at or above" and "at or below" mean, for tripping, for releasing and for the order of the two levels.
 pub mod Direction

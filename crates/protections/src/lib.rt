@@ -5,7 +5,7 @@ ghost use Rattle.protections.specs.Table.{rowWith, rowAt};
 use units::Level;
 use units::ProtectionNo;
 
-// How many protections a page and a pack state hold.
+// How many protections a pack state holds. A page has them all, or the first eight.
 pub const PROTECTIONS: usize = 10;
 
 // What a protection looks at in a sample.

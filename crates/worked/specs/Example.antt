@@ -67,6 +67,7 @@ unfolding laws-bits.hasBit laws-bits.withBitIf laws-each.eachTo units-signed.sig
     lines-output.output ranges-ranges.wordAt ranges-ranges.within ranges-ranges.degreesFit ranges-ranges.levelFits ranges-ranges.levelOf
     faults-kinds.kindOf faults-met.levelMet faults-met.orderMet faults-met.onRow faults-met.kindMeets faults-met.meets
     page-page.refusals page-page.judged settings-settings.inDegrees settings-settings.sampleLevel settings-settings.limitsFrom
+    settings-settings.limitsFor
     settings-settings.limitsOf settings-settings.rulesOf settings-settings.settingsOf settings-settings.noSettings
     settings-settings.loadedOf quantities-cells.bestOf quantities-cells.widened quantities-cells.extremesOf laws-numbered.listFrom
     laws-numbered.listOf guard-steps.raised guard-steps.protectionAfter guard-steps.protectionsAfter guard-steps.stepOne guard-steps.stepAt
