@@ -4,14 +4,15 @@ use mathlib.Core.Path.{_≡_, refl}
 use mathlib.Core.List.{List, [], _∷_, _++_, map}
 use Prim.Native.Nat.{ℕ}
 use lib.ListN.{take, set, replicate}
-use Rattle.laws.specs.Numbered.{countFrom, listFrom}
+use Rattle.laws.specs.Numbered.{listFrom}
 use Rattle.units.specs.Signed.{signedOf}
 use Rattle.crc.specs.CheckByte.{timesX, timesXs, withByte, remainder, checkByte}
 use Rattle.protections.specs.Table.{rowAt, table}
 use Rattle.page_words.specs.Ranges.{wordAt, within, degreesFit, levelFits, levelOf}
-use Rattle.page_faults.specs.Kinds.{kindOf}
+use Rattle.page_faults.specs.Kinds.{longLayout, kindOf}
 use Rattle.page_faults.specs.Met.{levelMet, orderMet, onRow, kindMeets, meets}
 use Rattle.page_judge.specs.Page.{refusals, judged}
+use Rattle.page_judge.specs.Walk.{lowestWord, faultsOf}
 use Rattle.page_judge.specs.Worked.{workedPage, longPage, put, minusWord, Change, changed, pageWith, longWith}
 use Rattle.refusals.specs.declared.Verdict.{Verdict}
 use Rattle.refusals.specs.declared.Verdict.the-variants.{Accepted, Refused}
@@ -24,15 +25,13 @@ record Page : Type 0 where
 abbrev page : List ℕ → Verdict → Page
 page b v = record { bytes = b; verdict = v }
 
+abbrev wanted : List Page → List Verdict
+wanted = map (λ (c : Page). c .verdict)
+
 abbrev one : ℕ → ℕ → List Change
 one w x = put w x ∷ []
 
--- The page of 160 bytes with some words changed and its check byte made to fit: it is taken, or refused with k at word w.
-abbrev taken : List Change → Page
-taken cs = page (longWith cs) Accepted
-
-abbrev refused : ℕ → ℕ → List Change → Page
-refused k w cs = page (longWith cs) (Refused k w)
+-- ---- whole pages
 
 -- "Refusal 1 is now given for a length other than 128 or 160, 2 also for 0xA517 and 3 if the mark doesn't fit the length."
 unfoldable fronts : List Page
@@ -52,11 +51,31 @@ fronts =
     ∷ page (pageWith (one 0 0xA517)) (Refused 2 0)
     -- the mark of the other length
     ∷ page (pageWith (one 0 0x17A5)) (Refused 3 0)
-    ∷ refused 3 0 (one 0 0x17A4)
-    ∷ refused 3 0 (one 0 0x17A6)
+    ∷ page (longWith (one 0 0x17A4)) (Refused 3 0)
+    ∷ page (longWith (one 0 0x17A6)) (Refused 3 0)
     ∷ page (set longPage 159 0) (Refused 4 0)
     ∷ page (changed longPage (one 66 1)) (Refused 4 0)  -- 4 before 5
+    -- with a check byte that fits, one of each row behind it
+    ∷ page (longWith (one 79 1)) (Refused 5 79)  -- byte 158
+    ∷ page (longWith (one 1 11)) (Refused 6 1)
+    ∷ page (longWith (one 63 0)) (Refused 7 63)  -- N of protection 9, and byte 126
+    ∷ page (longWith (one 63 240)) Accepted
+    ∷ page (longWith (one 61 (minusWord 5))) (Refused 8 61)
     ∷ []
+
+fronts-judged : map (λ (c : Page). judged (c .bytes)) fronts ≡ wanted fronts
+unfolding fronts judged refusals meets kindOf kindMeets onRow levelMet orderMet listFrom wordAt within degreesFit levelFits levelOf signedOf rowAt table
+    checkByte remainder withByte timesXs timesX
+fronts-judged = refl
+
+-- ---- rows 5 to 8, which are the verdict where length, mark and check byte fit
+
+-- The page of 160 bytes with some words changed: no row refuses it, or row k does at word w.
+abbrev taken : List Change → Page
+taken cs = page (changed longPage cs) Accepted
+
+abbrev refused : ℕ → ℕ → List Change → Page
+refused k w cs = page (changed longPage cs) (Refused k w)
 
 -- "Words 56 to 62 and byte 126 belong to protections there": 56 to 60 are those of 8, 61 to 65 those of 9, and byte 126 is in N of 9.
 unfoldable words : List Page
@@ -91,26 +110,6 @@ words =
     ∷ refused 7 65 (put 61 (minusWord 5) ∷ put 65 4 ∷ [])  -- 7 before 8
     ∷ []
 
-abbrev found : List Page → List Verdict
-found = map (λ (c : Page). judged (c .bytes))
-
-abbrev wanted : List Page → List Verdict
-wanted = map (λ (c : Page). c .verdict)
-
-fronts-judged : found fronts ≡ wanted fronts
-unfolding fronts judged refusals meets kindOf kindMeets onRow levelMet orderMet listFrom wordAt within degreesFit levelFits levelOf signedOf rowAt table
-    checkByte remainder withByte timesXs timesX
-fronts-judged = refl
-
-words-judged : found words ≡ wanted words
-unfolding words judged refusals meets kindOf kindMeets onRow levelMet orderMet listFrom wordAt within degreesFit levelFits levelOf signedOf rowAt table
-    checkByte remainder withByte timesXs timesX
+words-judged : map (λ (c : Page). faultsOf longLayout (c .bytes)) words ≡ wanted words
+unfolding words faultsOf lowestWord meets kindOf kindMeets onRow levelMet orderMet listFrom wordAt within degreesFit levelFits levelOf signedOf rowAt table
 words-judged = refl
-
--- On a page of 128 bytes words 56 to 62 and byte 126 are reserved, as ever.
-short-reserved
-    : map (λ w. judged (pageWith (one w 1))) (countFrom 56 8)
-    ≡ map (λ w. Refused 5 w) (countFrom 56 8)
-unfolding judged refusals meets kindOf kindMeets onRow levelMet orderMet listFrom wordAt within degreesFit levelFits levelOf signedOf rowAt table
-    checkByte remainder withByte timesXs timesX
-short-reserved = refl
