@@ -17,7 +17,7 @@ use Rattle.page_settings.specs.declared.Settings.{Settings}
 use Rattle.page_settings.specs.Good.{Good}
 use Rattle.bleed.specs.Walk.Walk.{has}
 use Rattle.bleed.specs.Walk.History.{wantsCell}
-use Rattle.bleed_wants.specs.Word.{holdsCell}
+use Rattle.bleed_wants.specs.Word.{holdsCell, in-none}
 use Rattle.bleed.specs.Walk.Demand.{fair-anywhere, never-over-R}
 use Rattle.bleed.specs.Walk.Balance.{bledWordAfter, bledNowAfter, bled-bit, bled-few, bled-apart}
 use Rattle.pack_state.specs.State.{byPage, wishesAfter, bledAfter, bledsAfter}
@@ -83,11 +83,25 @@ module _ (page : Settings) (good : Good page) where
       → Alike (λ w. holdsCell w k) (has k) (drop j (bledWordsAfter page h)) (drop j (bledsAfter page h))
   later-alike k first j h = alike-drop (λ w. holdsCell w k) (has k) j (bledWordsAfter page h) (bledsAfter page h) (words-alike k first h)
 
+  -- So at the sample j before the latest.
+  pub words-at : (k : ℕ) → 1 ≤ k → (j : ℕ) (h : List Sample)
+      → holdsCell (getD (bledWordsAfter page h) j 0) k ≡ has k (getD (bledsAfter page h) j [])
+  unfolding bledAfter wishesAfter
+  words-at k first j [] = in-none k
+  words-at k first zero (s ∷ h) = word-has k first (wishesAfter page (s ∷ h))
+  words-at k first (suc j) (s ∷ h) = words-at k first j h
+
   -- At how many of m samples, j samples before the latest, cell k is in the word, and at how many it was bled.
   pub words-among : (k : ℕ) → 1 ≤ k → (m j : ℕ) (h : List Sample)
       → among m (λ w. holdsCell w k) (drop j (bledWordsAfter page h)) ≡ among m (has k) (drop j (bledsAfter page h))
   words-among k first m j h =
       alike-among (λ w. holdsCell w k) (has k) m (drop j (bledWordsAfter page h)) (drop j (bledsAfter page h)) (later-alike k first j h)
+
+  -- Whether it is in each of those m words, and whether it was bled at each of those samples.
+  pub words-last : (k : ℕ) → 1 ≤ k → (m j : ℕ) (h : List Sample)
+      → lastAll m (λ w. holdsCell w k) (drop j (bledWordsAfter page h)) ≡ lastAll m (has k) (drop j (bledsAfter page h))
+  words-last k first m j h =
+      alike-last (λ w. holdsCell w k) (has k) m (drop j (bledWordsAfter page h)) (drop j (bledsAfter page h)) (later-alike k first j h)
 
   -- Cell k wants at n + 1 accepted samples in a row, j samples before the latest: it is bled in at least one of them.
   pub words-fair : (k : ℕ) → 1 ≤ k → k ≤ page .rules .n → (j : ℕ) (h : List Sample)
@@ -100,10 +114,7 @@ module _ (page : Settings) (good : Good page) where
   -- No cell is bled at more than R accepted samples in a row.
   pub words-run : (k : ℕ) → 1 ≤ k → (j : ℕ) (h : List Sample)
       → lastAll (suc (page .rules .r)) (λ w. holdsCell w k) (drop j (bledWordsAfter page h)) ≡ false
-  words-run k first j h =
-      alike-last (λ w. holdsCell w k) (has k) (suc (page .rules .r)) (drop j (bledWordsAfter page h)) (drop j (bledsAfter page h))
-      (later-alike k first j h)
-      ∙ byPage page never-over-R k j (wishesAfter page h)
+  words-run k first j h = words-last k first (suc (page .rules .r)) j h ∙ byPage page never-over-R k j (wishesAfter page h)
 
   -- Never are two neighbours bled at once: bits i and i + 1 stand for cells i + 1 and i + 2.
   pub words-apart : (i j : ℕ) (h : List Sample) → hasBit (getD (bledWordsAfter page h) j 0) i ≡ true

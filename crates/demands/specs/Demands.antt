@@ -267,7 +267,7 @@ pub demand-3-each : (bytes : List ℕ) (es : List Event)
     → (length (shownWords bytes es) ≡ length (samples bytes es)) × (length (wanted bytes es) ≡ length (samples bytes es))
 demand-3-each bytes es = (shown-each bytes es, wishes-length (pageOf bytes) (samples bytes es))
 
-page-good : (bytes : List ℕ) → judged bytes ≡ Accepted → Good (pageOf bytes)
+pub page-good : (bytes : List ℕ) → judged bytes ≡ Accepted → Good (pageOf bytes)
 page-good bytes taken = rw (page-accepted bytes taken) (accepted-good bytes taken)
 
 -- Any more than n samples suffice.

@@ -78,6 +78,10 @@ module _ (bytes : List ℕ) where
   abbrev pub wanted : List Event → List (ℕ → Bool)
   wanted es = wishesAfter (pageOf bytes) (samples es)
 
+-- Who wants where there is no sample.
+abbrev pub nobody : ℕ → Bool
+nobody k = false
+
 -- ---- each field is document 01's
 
 pub shown-is : (bytes : List ℕ) (es : List Event) → shown bytes es ≡ decisionAfter (pageOf bytes) (pastAfter bytes es)

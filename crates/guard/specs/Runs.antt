@@ -30,23 +30,30 @@ pub run-most : (N M most : ℕ) (a : Alarm) → N ≤ most → M ≤ most → Ru
 run-most N M most (Clear run) n m w = omega arith
 run-most N M most (Raised run) n m w = omega arith
 
--- One sample on, by counting: a run of N tripping samples raises, a run of M releasing samples releases.
+-- One sample on, by counting: while clear a run of N tripping samples raises,
+abbrev pub nextClear : ℕ → Bool → ℕ → Alarm
+nextClear N trip run = cond (leb N (nextRun trip run)) (Raised 0) (Clear (nextRun trip run))
+
+-- while raised a run of M releasing samples releases.
+abbrev pub nextRaised : ℕ → Bool → ℕ → Alarm
+nextRaised M qualify run = cond (leb M (nextRun qualify run)) (Clear 0) (Raised (nextRun qualify run))
+
 abbrev pub nextAlarm : ℕ → ℕ → Bool → Bool → Alarm → Alarm
-nextAlarm N M trip qualify (Clear run) = cond (leb N (nextRun trip run)) (Raised 0) (Clear (nextRun trip run))
-nextAlarm N M trip qualify (Raised run) = cond (leb M (nextRun qualify run)) (Clear 0) (Raised (nextRun qualify run))
+nextAlarm N M trip qualify (Clear run) = nextClear N trip run
+nextAlarm N M trip qualify (Raised run) = nextRaised M qualify run
 
 -- What the four branches of the code come to: r is the run with this sample.
-pub clear-reached : (N M run r : ℕ) (trip qualify : Bool) → r ≡ nextRun trip run → N ≤ r → nextAlarm N M trip qualify (Clear run) ≡ Raised 0
-clear-reached N M run r trip qualify e h = rw (← e, le-leb N r h)
+pub clear-reached : (N run r : ℕ) (trip : Bool) → r ≡ nextRun trip run → N ≤ r → nextClear N trip run ≡ Raised 0
+clear-reached N run r trip e h = rw (← e, le-leb N r h)
 
-pub clear-short : (N M run r : ℕ) (trip qualify : Bool) → r ≡ nextRun trip run → r < N → nextAlarm N M trip qualify (Clear run) ≡ Clear r
-clear-short N M run r trip qualify e h = rw (← e, lt-leb N r h)
+pub clear-short : (N run r : ℕ) (trip : Bool) → r ≡ nextRun trip run → r < N → nextClear N trip run ≡ Clear r
+clear-short N run r trip e h = rw (← e, lt-leb N r h)
 
-pub raised-reached : (N M run r : ℕ) (trip qualify : Bool) → r ≡ nextRun qualify run → M ≤ r → nextAlarm N M trip qualify (Raised run) ≡ Clear 0
-raised-reached N M run r trip qualify e h = rw (← e, le-leb M r h)
+pub raised-reached : (M run r : ℕ) (qualify : Bool) → r ≡ nextRun qualify run → M ≤ r → nextRaised M qualify run ≡ Clear 0
+raised-reached M run r qualify e h = rw (← e, le-leb M r h)
 
-pub raised-short : (N M run r : ℕ) (trip qualify : Bool) → r ≡ nextRun qualify run → r < M → nextAlarm N M trip qualify (Raised run) ≡ Raised r
-raised-short N M run r trip qualify e h = rw (← e, lt-leb M r h)
+pub raised-short : (M run r : ℕ) (qualify : Bool) → r ≡ nextRun qualify run → r < M → nextRaised M qualify run ≡ Raised r
+raised-short M run r qualify e h = rw (← e, lt-leb M r h)
 
 module _ {S : Type 0} (N M : ℕ) (trips qualifies : S → Bool) where
   -- "Clear: it is raised at a sample if the last N accepted samples, this one included, all trip. Raised: it is released

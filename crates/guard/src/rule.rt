@@ -1,7 +1,7 @@
 // The run rule of document 01: what raises a protection and what releases it.
 ghost use mathlib.Core.Path.{_≡_};
 ghost use Rattle.protections.specs.Direction.{reaches};
-ghost use Rattle.guard.specs.Runs.{nextAlarm};
+ghost use Rattle.guard.specs.Runs.{nextClear, nextRaised};
 ghost use Rattle.guard.specs.Steps.{stepOne};
 use laws::next_run;
 use protections::Direction;
@@ -30,39 +30,47 @@ fn has_reached(d: Direction, level: Level, value: Level) -> bool
     }
 }
 
-// The run rule: a run of N tripping samples raises, a run of M releasing samples releases.
-fn next_alarm(n: u8, m: u8, trips: bool, qualifies: bool, a: Alarm) -> Alarm
-    ensures { λ r. ⌜ r ≡ nextAlarm n m trips qualifies a ⌝ }
+// A clear protection, one sample on: a run of N tripping samples raises it.
+fn next_clear(n: u8, trips: bool, old: u8) -> Alarm
+    ensures { λ r. ⌜ r ≡ nextClear n trips old ⌝ }
 {
-    match a {
-        Alarm::Clear(old) => {
-            let run = next_run(trips, old);
-            if n <= run {
-                Alarm::Raised(0)
-            } else {
-                Alarm::Clear(run)
-            }
-        }
-        Alarm::Raised(old) => {
-            let run = next_run(qualifies, old);
-            if m <= run {
-                Alarm::Clear(0)
-            } else {
-                Alarm::Raised(run)
-            }
-        }
+    let run = next_run(trips, old);
+    if n <= run {
+        Alarm::Raised(0)
+    } else {
+        Alarm::Clear(run)
     }
 }
 
-// One protection, one sample on: `value` is what it looks at in the sample.
+// A raised one: a run of M releasing samples releases it.
+fn next_raised(m: u8, qualifies: bool, old: u8) -> Alarm
+    ensures { λ r. ⌜ r ≡ nextRaised m qualifies old ⌝ }
+{
+    let run = next_run(qualifies, old);
+    if m <= run {
+        Alarm::Clear(0)
+    } else {
+        Alarm::Raised(run)
+    }
+}
+
+// One protection, one sample on: `value` is what it looks at in the sample. While clear it asks the trip level alone, while raised the
+// release level alone: with an accepted page no sample reaches both (`never-trips-and-releases`, crate never).
 pub fn step_one(d: Direction, value: Level, p: Protection) -> Protection
     ensures { λ r. ⌜ r ≡ stepOne d (value .0) p ⌝ }
 {
     let limits = p.limits;
     let a = p.alarm;
-    let trips = has_reached(d, limits.trip, value);
-    let qualifies = has_reached(back_of(d), limits.release, value);
-    let next = next_alarm(limits.n, limits.m, trips, qualifies, a);
+    let next = match a {
+        Alarm::Clear(run) => {
+            let trips = has_reached(d, limits.trip, value);
+            next_clear(limits.n, trips, run)
+        }
+        Alarm::Raised(run) => {
+            let qualifies = has_reached(back_of(d), limits.release, value);
+            next_raised(limits.m, qualifies, run)
+        }
+    };
     Protection {
         limits: limits,
         alarm: next,

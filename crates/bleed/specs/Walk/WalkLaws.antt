@@ -87,7 +87,7 @@ module _ (K : ℕ) (wants rests : ℕ → Bool) where
       cells [] (λ h. clash refl (sym h))
 
   -- What is taken was asked, or taken before.
-  walk-from : (k : ℕ) (cells t : List ℕ) → has k (walk K wants rests cells t) ≡ true → (has k cells ≡ true) ⊎ (has k t ≡ true)
+  pub walk-from : (k : ℕ) (cells t : List ℕ) → has k (walk K wants rests cells t) ≡ true → (has k cells ≡ true) ⊎ (has k t ≡ true)
   walk-from k [] t e = inr e
   walk-from k (c ∷ cells) t e =
       by-test (takes K wants rests c t)

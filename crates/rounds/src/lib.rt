@@ -1,0 +1,1 @@
+// What long waiting gives (request 14): specs/Rounds.antt. No code stands here.
