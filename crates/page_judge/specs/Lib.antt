@@ -10,3 +10,5 @@ pub mod Accepted
 pub mod Walk
 -- The page of document 01's replay example, and pages that differ from it in a few words.
 pub mod Worked
+-- Computed verdicts on pages whose first word is another.
+pub mod Marks
