@@ -44,3 +44,8 @@ few-cells = refl
 cells-of-a-word : map (holdsCell 0x201) (0 ∷ 1 ∷ 2 ∷ 9 ∷ 10 ∷ 11 ∷ []) ≡ false ∷ true ∷ false ∷ false ∷ true ∷ false ∷ []
 unfolding holdsCell hasBit
 cells-of-a-word = refl
+
+-- The first entry is cell 1, the last is cell 10; there is no other cell.
+entries : map (voltsOf volts) (1 ∷ 2 ∷ 3 ∷ 10 ∷ 11 ∷ []) ≡ 4011 ∷ 4000 ∷ 4010 ∷ 4500 ∷ 0 ∷ []
+unfolding voltsOf
+entries = refl

@@ -18,7 +18,7 @@ use Rattle.guard.specs.declared.rule.Alarm.{Alarm}
 use Rattle.guard.specs.declared.rule.Alarm.the-variants.{Clear, Raised}
 use Rattle.guard.specs.declared.rule.Protection.{Protection}
 use Rattle.guard.specs.Runs.{isRaised, alarmRunOf, alarmAfter, alarmStepped}
-use Rattle.guard.specs.Steps.{raised, protectionAfter, stepOne, stepAt}
+use Rattle.guard.specs.Steps.{raised, protectionAfter, stepOne, stepAt, clear}
 
 -- ---- limits and samples, written short
 
@@ -158,3 +158,8 @@ rule-steps = refl
 
 pub runs-read : alarmRunOf (Clear 2) ∷ alarmRunOf (Raised 3) ∷ [] ≡ 2 ∷ 3 ∷ []
 runs-read = refl
+
+-- At the load: clear, with no run.
+pub at-load : clear (limited (pos 4250) (pos 4150) 3 2 1) ≡ record { limits = limited (pos 4250) (pos 4150) 3 2 1; alarm = Clear 0 }
+unfolding clear
+at-load = refl

@@ -2,6 +2,7 @@
 -- Assumes nothing.
 use Prim.Native.Nat.{ℕ}
 use mathlib.Core.Path.{_≡_, refl}
+use mathlib.Core.Bool.{true, false}
 use mathlib.Core.List.{List, [], _∷_}
 use Rattle.text_fields.specs.Quoted.{quoted}
 use lib.IntN.{pos, negsuc}
@@ -14,6 +15,9 @@ use Rattle.text_fields.specs.Fields.{fieldsOf}
 use Rattle.text_numbers.specs.Numbers.{numberTo, digitsTo, readSigned}
 use Rattle.log_entries.specs.declared.Kind.the-variants.{Offer, Command, Malformed}
 use Rattle.log_entries.specs.Entry.{malformed, command, offer, readCommand, cellsFrom, secondOf, firstOf, readSample, fieldsSay, readEntry}
+use Rattle.log_entries.specs.Left.{left}
+use Rattle.log_entries.specs.InTurn.{cellsOf, readNumbers}
+use Rattle.text_numbers.specs.Signs.{withSign}
 
 abbrev mv : ℕ → MilliVolts
 mv v = record { 0 = v }
@@ -94,3 +98,21 @@ eighty = quoted "S\t-32768\t65535\t65535\t65535\t65535\t65535\t65535\t65535\t655
 pub eighty-read : (length eighty ≡ 80) × (readEntry eighty ≡ offer (negsuc 32767) 65535 65535 10 (replicate 10 (mv 65535)))
 unfolding readEntry fieldsSay readSample firstOf secondOf cellsFrom readCommand lacks fieldsOf numberTo digitsTo readSigned
 eighty-read = (refl, refl)
+
+-- as the reader takes an `S` line: the fields left from a place on; the cells behind the three other numbers; and what the fields say, the
+-- first of them without its minus
+pub fields-left : (left (quoted "S\t-7\t2981") 2 ≡ quoted "-7" ∷ quoted "2981" ∷ []) × (left (quoted "S\t-7\t2981") 9 ≡ [] ∷ [])
+    × (left (quoted "S\t-7\t2981") 10 ≡ [])
+unfolding left fieldsOf
+fields-left = (refl, refl, refl)
+
+pub cells-behind : (cellsOf (7 ∷ 2981 ∷ 2992 ∷ 3001 ∷ 3002 ∷ []) ≡ mv 3001 ∷ mv 3002 ∷ []) × (cellsOf (7 ∷ 2981 ∷ []) ≡ [])
+unfolding cellsOf
+cells-behind = (refl, refl)
+
+pub in-turn : (readNumbers true (quoted "7" ∷ quoted "2981" ∷ quoted "2992" ∷ quoted "3001" ∷ []) ≡ offer (negsuc 6) 2981 2992 1 (mv 3001 ∷ zeros 9))
+    × (readNumbers false (quoted "7" ∷ quoted "2981" ∷ quoted "2992" ∷ []) ≡ offer (pos 7) 2981 2992 0 (zeros 10))
+    × (readNumbers true (quoted "0" ∷ quoted "2981" ∷ quoted "2992" ∷ []) ≡ malformed)
+    × (readNumbers false [] ≡ malformed)
+unfolding readNumbers firstOf secondOf cellsFrom withSign numberTo digitsTo
+in-turn = (refl, refl, refl, refl)

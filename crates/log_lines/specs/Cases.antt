@@ -10,7 +10,7 @@ use Rattle.log_lines.specs.Carrying.{carried, moveDown}
 use Rattle.log_lines.specs.Walking.{whole}
 use Rattle.log_lines.specs.Folded.{behindLines, behindLog}
 use Rattle.log_lines.specs.Run.{closing, Round, readIn, writtenIn, stateBehind, heldBehind, doneBehind}
-use Rattle.log_lines.specs.Output.{output, answers}
+use Rattle.log_lines.specs.Output.{output, answers, written, withAnswer}
 use Rattle.log_lines.specs.Chunk.{answerLines, reached}
 use Rattle.log_lines.specs.declared.NextLine.the-variants.{Ends, Unfinished}
 
@@ -94,3 +94,7 @@ plains = (refl, refl, refl, refl)
 pub wholes : (whole (65 ∷ 66 ∷ 10 ∷ 10 ∷ 67 ∷ []) ≡ (65 ∷ 66 ∷ []) ∷ [] ∷ []) × (whole (65 ∷ []) ≡ []) × (whole (65 ∷ 10 ∷ []) ≡ (65 ∷ []) ∷ [])
 unfolding whole
 wholes = (refl, refl, refl)
+
+-- one line more: its answer behind the text, and the state behind it
+pub one-more : withAnswer count tell (written (9 ∷ []) 4) (65 ∷ []) ≡ record { text = 9 ∷ 4 ∷ 10 ∷ []; state = 5 }
+one-more = refl

@@ -10,7 +10,7 @@ use Rattle.refusals.specs.Answers.{answerOf}
 use Rattle.refusals.specs.Refusals.{answer}
 use Rattle.sample.specs.Cases.{belowZero, sampled}
 use Rattle.sample.specs.declared.Sample.{Sample}
-use Rattle.pack_refusals.specs.Samples.{cellsFit, sampleRefusals, sampleVerdict, commandRefusals, commandVerdict, keptCell, trimmed}
+use Rattle.pack_refusals.specs.Samples.{cellsFit, sampleRefusals, sampleVerdict, temperaturesVerdict, commandRefusals, commandVerdict, keptCell, trimmed}
 
 -- The numbers that a pack of n cells answers to some samples; 0 where nothing is refused.
 abbrev numbers : ℕ → List Sample → List ℕ
@@ -89,3 +89,12 @@ word-0 = refl
 pub kept : trimmed (two 4001 4002 2981 2992) ≡ sampled 2 (4001 ∷ 4002 ∷ 0 ∷ 0 ∷ 0 ∷ 0 ∷ 0 ∷ 0 ∷ 0 ∷ 0 ∷ []) (belowZero 32768) 2981 2992
 unfolding trimmed eachTo keptCell
 kept = refl
+
+-- The last row by itself, as the code tries it.
+pub last-row
+    : map answerOf
+    (temperaturesVerdict 2000 4500 ∷ temperaturesVerdict 4500 2000 ∷ temperaturesVerdict 1999 2980 ∷ temperaturesVerdict 4501 2980
+    ∷ temperaturesVerdict 2980 1999 ∷ temperaturesVerdict 2980 4501 ∷ [])
+    ≡ (answer 0 0 ∷ answer 0 0 ∷ answer 11 0 ∷ answer 11 0 ∷ answer 11 0 ∷ answer 11 0 ∷ [])
+unfolding temperaturesVerdict within
+last-row = refl

@@ -12,3 +12,5 @@ pub mod Walk
 pub mod Worked
 -- Computed verdicts on pages of 160 bytes.
 mod Long
+-- Computed verdicts on pages whose first word is another.
+pub mod Marks

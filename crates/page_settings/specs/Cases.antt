@@ -1,7 +1,7 @@
 -- What three pages say, one of them of 160 bytes, and document 02's degrees, computed from the definitions.
 -- Assumes nothing.
 use mathlib.Core.Path.{_≡_, refl}
-use mathlib.Core.List.{List, [], _∷_}
+use mathlib.Core.List.{List, [], _∷_, map}
 use Prim.Native.Nat.{ℕ}
 use lib.ListN.{replicate}
 use lib.IntN.{ℤ, pos, negsuc}
@@ -21,7 +21,7 @@ use Rattle.page_judge.specs.Worked.{workedPage, longPage, unlikePage, minusWord
 use Rattle.refusals.specs.declared.Verdict.the-variants.{Accepted, Refused}
 use Rattle.page_settings.specs.declared.Rules.{Rules}
 use Rattle.page_settings.specs.declared.Settings.{Settings}
-use Rattle.page_settings.specs.Settings.{inDegrees, sampleLevel, limitsFrom, limitsFor, limitsOf, rulesOf, settingsOf, noSettings, loadedOf}
+use Rattle.page_settings.specs.Settings.{inDegrees, twiceTenths, sampleLevel, limitsFrom, limitsFor, limitsOf, rulesOf, settingsOf, noSettings, loadedOf}
 
 -- ---- levels
 
@@ -180,3 +180,8 @@ none-loaded : loadedOf [] ≡ record { verdict = Refused 1 0; settings = silent 
 unfolding loadedOf settingsOf rulesOf noSettings judged refusals meets kindOf kindMeets onRow levelMet orderMet listFrom wordAt within
     degreesFit levelFits levelOf signedOf rowAt table checkByte remainder
 none-loaded = refl
+
+-- ---- twice the tenths of -40, -1, 0, 25 and 120 °C
+
+degrees : map twiceTenths (negsuc 39 ∷ negsuc 0 ∷ pos 0 ∷ pos 25 ∷ pos 120 ∷ []) ≡ pos 4663 ∷ pos 5443 ∷ pos 5463 ∷ pos 5963 ∷ pos 7863 ∷ []
+degrees = refl

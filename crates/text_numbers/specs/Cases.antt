@@ -5,7 +5,7 @@ use mathlib.Core.List.{[]}
 use Rattle.text_fields.specs.Quoted.{quoted}
 use lib.IntN.{pos, negsuc}
 use Rattle.text_fields.specs.Decimal.{decimal}
-use Rattle.text_numbers.specs.Signs.{pastMinus, withSign}
+use Rattle.text_numbers.specs.Signs.{pastMinus, withSign, signedNumber}
 use Rattle.text_numbers.specs.declared.Number.the-variants.{Value, Malformed}
 use Rattle.text_numbers.specs.declared.Signed.the-variants as signed
 use Rattle.text_numbers.specs.Numbers.{digitsTo, numberTo, readNumber, negative, readSigned, signedText}
@@ -57,3 +57,9 @@ pub signs : (withSign true 0 ≡ signed.Malformed) × (withSign true 1 ≡ signe
     × (withSign false 32768 ≡ signed.Malformed)
 unfolding withSign
 signs = (refl, refl, refl, refl, refl, refl, refl)
+
+-- the same of what was read of a field
+pub signed-fields : (signedNumber true (Value 7) ≡ signed.Value (negsuc 6)) × (signedNumber false (Value 7) ≡ signed.Value (pos 7))
+    × (signedNumber false Malformed ≡ signed.Malformed) × (signedNumber true Malformed ≡ signed.Malformed)
+unfolding withSign
+signed-fields = (refl, refl, refl, refl)
