@@ -15,7 +15,7 @@ use borrow.Author.Tests.{le-ltb, ltb-false}
 use Rattle.laws.specs.Tests.{by-test, clash, and-left}
 use Rattle.laws.specs.Bits.{hasBit}
 use Rattle.laws.specs.Latest.{lastAll, among}
-use Rattle.units.specs.declared.MilliVolts.{MilliVolts}
+use Rattle.sample.specs.declared.Found.{Found}
 use Rattle.units.specs.Cells.{tenAtMost, ten-all}
 use Rattle.protections.specs.declared.Limits.{Limits}
 use Rattle.protections.specs.Limits.{limitsAt, GoodLimits}
@@ -130,7 +130,7 @@ pub record IsLowest (s : Sample) (k : ℕ) : Type 0 where
 
 -- What the step takes for the lowest cell's millivolts. Nothing below these three looks into what the search for it answers.
 abbrev pub lowestVolts : Sample → ℕ
-lowestVolts s = extremesOf (s .cells) (s .count) .lowest .0
+lowestVolts s = extremesOf (s .cells) (s .count) .lowest .volts .0
 
 -- They are those of a cell of the sample, if it has one,
 lowest-place : (s : Sample) → 1 ≤ s .count → (d : ℕ) × (1 ≤ d) × (d ≤ s .count) × (lowestVolts s ≡ voltsOf (s .cells) d)
@@ -140,7 +140,7 @@ lowest-place s some =
     let inside = at .within in
     let most = few .1 in
     let place : at .place ≡ suc (at .place) - 1 = omega arith in
-    let volts = ap (λ (v : MilliVolts). v .0) (at .is) ∙ ap (λ (i : ℕ). getD (s .cells) i noVolts .0) place in
+    let volts = ap (λ (f : Found). f .volts .0) (at .is) ∙ ap (λ (i : ℕ). getD (s .cells) i noVolts .0) place in
     (suc (at .place), omega arith, omega arith, volts)
   where
     few : (1 ≤ tenAtMost (s .count)) × (tenAtMost (s .count) ≤ s .count)
