@@ -18,6 +18,8 @@ mod dice;
 mod long_log;
 #[path = "history/pages.rs"]
 mod pages;
+#[path = "history/rounds.rs"]
+mod rounds;
 #[path = "history/selftest.rs"]
 mod selftest;
 

@@ -3,17 +3,18 @@
 use super::cases::case;
 use super::dice::Dice;
 use super::pages::*;
+use super::rounds::{check_the_rounds, three_cells};
 use super::*;
 use std::collections::BTreeSet;
 
 /// Counts what holds; names what does not.
-struct Checks {
+pub struct Checks {
     passed: u32,
     failed: u32,
 }
 
 impl Checks {
-    fn that(&mut self, what: &str, holds: bool) {
+    pub fn that(&mut self, what: &str, holds: bool) {
         if holds {
             self.passed += 1;
         } else {
@@ -32,14 +33,14 @@ fn changed(layout: &Layout, n: u16, changes: &[(usize, i64)]) -> Vec<u8> {
     page_of(&words)
 }
 
-fn accepted(page: &[u8]) -> Page {
+pub fn accepted(page: &[u8]) -> Page {
     match judge(page) {
         Ok(page) => page,
         Err(refusal) => panic!("a page of the self test is refused: {:?}", refusal),
     }
 }
 
-fn page_with(n: u16, changes: &[(usize, i64)]) -> Page {
+pub fn page_with(n: u16, changes: &[(usize, i64)]) -> Page {
     accepted(&changed(short(), n, changes))
 }
 
@@ -47,7 +48,7 @@ fn long_page_with(n: u16, changes: &[(usize, i64)]) -> Page {
     accepted(&changed(long(), n, changes))
 }
 
-fn sample_of(current: i16, cells: &[u16]) -> Sample {
+pub fn sample_of(current: i16, cells: &[u16]) -> Sample {
     Sample { current, temperature_1: 2980, temperature_2: 2980, cells: cells.to_vec() }
 }
 
@@ -74,15 +75,11 @@ fn check_the_debounce(checks: &mut Checks) {
 }
 
 fn check_the_bleeding(checks: &mut Checks) {
-    let page = page_with(3, &[(2, 1), (3, 1), (4, 3900), (5, 10), (6, 100)]);
+    let (page, samples) = three_cells();
     let mut history = History::load(page);
-    let none = [4000, 4000, 4000];
-    let one_two = [4020, 4020, 4000];
-    let one_three = [4020, 4000, 4020];
-    let samples = [none, none, one_two, one_three, one_two, one_three, one_two];
     let bled = [0, 0, 1, 4, 2, 4, 1];
-    for (place, (cells, bled)) in samples.iter().zip(bled).enumerate() {
-        let accepted = history.offer(sample_of(500, cells)).is_ok();
+    for (place, (sample, bled)) in samples.into_iter().zip(bled).enumerate() {
+        let accepted = history.offer(sample).is_ok();
         let what = format!("n 3, K 1, R 1: sample {}", place + 1);
         checks.that(&what, accepted && history.bled_now() == bled);
     }
@@ -483,6 +480,7 @@ pub fn selftest() -> bool {
     check_the_replay(&mut checks);
     check_the_lines(&mut checks);
     check_the_tick(&mut checks);
+    check_the_rounds(&mut checks);
     println!("selftest: {} passed, {} failed", checks.passed, checks.failed);
     checks.failed == 0
 }
