@@ -1,8 +1,10 @@
 -- Worked cases, computed: what a reader can check by eye.
 use mathlib.Core.Path.{_≡_, refl}
+use mathlib.Core.Bool.{true, false}
 use Rattle.text_fields.specs.Quoted.{quoted}
 use Rattle.text_fields.specs.Finding.{before}
 use Rattle.text_numbers.specs.Numbers.{numberTo, digitsTo}
+use Rattle.text_number_at.specs.Four.{together, allDigits, valued}
 use Rattle.text_number_at.specs.NumberAt.{numberAt}
 use Rattle.text_number_at.specs.declared.FieldNumber.the-variants.{Value, Malformed}
 
@@ -17,3 +19,15 @@ pub no-numbers : (numberAt (quoted "0123") 0 ≡ Malformed) × (numberAt (quoted
     × (numberAt (quoted "\t1") 0 ≡ Malformed) × (numberAt (quoted "1") 9 ≡ Malformed)
 unfolding before numberTo digitsTo
 no-numbers = (refl, refl, refl, refl, refl)
+
+-- four digits at once: they pass up to 9, ten does not at any of the four places, nor does what stands for a letter
+pub pass : (allDigits (together 1 2 3 4) ≡ true) × (allDigits (together 9 9 9 9) ≡ true) × (allDigits (together 10 2 3 4) ≡ false)
+    × (allDigits (together 1 10 3 4) ≡ false) × (allDigits (together 1 2 10 4) ≡ false) × (allDigits (together 1 2 3 10) ≡ false)
+    × (allDigits (together 1 2 3 72) ≡ false) × (allDigits (together 138 2 3 4) ≡ false)
+unfolding allDigits
+pass = (refl, refl, refl, refl, refl, refl, refl, refl)
+
+-- and what they spell
+pub spell : (valued (together 1 2 3 4) ≡ 1234) × (valued (together 9 9 9 9) ≡ 9999)
+unfolding valued
+spell = (refl, refl)
