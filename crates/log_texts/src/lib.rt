@@ -14,13 +14,13 @@ pub const ROOM: usize = 35;
 
 // ---- a line
 
-// A number, and the tab or the newline behind it.
+// A number, and the tab or the newline behind it. Both have room.
 fn put_field(out: &mut [u8], at: usize, v: u32, end: u8) -> usize
     requires { ⌜ at + length (fieldText v end) ≤ length (now out) ⌝ }
     ensures { λ r. ⌜ Put (now (out .entry)) at (fieldText v end) r (now (out .exit)) ⌝ }
 {
-    let e = text_writing::put_decimal(out, at, v);
-    text_writing::put_byte(out, e, end)
+    let e = text_writing::put_decimal_in(out, at, v);
+    text_writing::put_byte_in(out, e, end)
 }
 
 fn put_front(out: &mut [u8], at: usize, tick: u32, raised: u16, fets: u16) -> usize

@@ -1,8 +1,9 @@
 -- Worked cases, computed: what a reader can check by eye.
 use mathlib.Core.Path.{_≡_, refl}
+use mathlib.Core.Bool.{true, false}
 use mathlib.Core.List.{[], _∷_}
 use Rattle.text_fields.specs.Quoted.{quoted}
-use Rattle.text_fields.specs.Finding.{before}
+use Rattle.text_fields.specs.Finding.{before, noneOf}
 use Rattle.text_fields.specs.Fields.{fieldsOf, fieldAt}
 use Rattle.text_fields.specs.Decimal.{decimal}
 
@@ -21,6 +22,11 @@ pub found : (fieldAt (quoted "S\t12") 0 ≡ quoted "S") × (fieldAt (quoted "S\t
     × (fieldAt (quoted "S\t12") 3 ≡ quoted "2") × (fieldAt (quoted "S\t12") 9 ≡ [])
 unfolding before
 found = (refl, refl, refl, refl)
+
+-- no tab among the two bytes of "S<tab>12" from 2 on; one is the first, and one the last, of those looked at
+pub none : (noneOf 2 9 (quoted "S\t12") 2 ≡ true) × (noneOf 3 9 (quoted "S\t12") 1 ≡ false) × (noneOf 2 9 (quoted "S\t12") 0 ≡ false)
+unfolding noneOf
+none = (refl, refl, refl)
 
 -- 0, 10, 9, 99, 65535 and 1000000 as text
 pub texts : (decimal 0 ≡ quoted "0") × (decimal 10 ≡ quoted "10") × (decimal 9 ≡ quoted "9") × (decimal 99 ≡ quoted "99") × (decimal 65535 ≡ quoted "65535")

@@ -1,7 +1,7 @@
 -- The bytes before the first of a kind, and the search for it byte by byte.
-use Prim.Native.Nat.{ℕ, suc, _+_, _<_, _≤_}
+use Prim.Native.Nat.{ℕ, zero, suc, _+_, _<_, _≤_}
 use mathlib.Core.Path.{_≡_, refl, sym, ap, _∙_}
-use mathlib.Core.Bool.{Bool, true, false, cond, true≢false}
+use mathlib.Core.Bool.{Bool, true, false, not, _&&_, cond, true≢false}
 use mathlib.Core.List.{List, [], _∷_, _++_}
 use native.Mathlib.Nat.{not-suc-le-zero, le-of-suc-le-suc}
 use native.Mathlib.Numerals.{add-one}
@@ -10,7 +10,7 @@ use lib.Dec.{eqb}
 use lib.ListN.{length, take, drop, getD, drop-of-length-le}
 use lib.Seq.{drop-cons, take-all}
 use borrow.Author.Tests.{eq-eqb, ne-eqb, eqb-true}
-use Rattle.laws.specs.Tests.{by-test}
+use Rattle.laws.specs.Tests.{by-test, clash, and-left, and-right}
 
 -- the bytes of x before the first w, or all of them where there is none
 unfoldable pub before : ℕ → List ℕ → List ℕ
@@ -92,3 +92,25 @@ module _ (w : ℕ) (x : List ℕ) (e : ℕ) where
   -- it does not stand at e: the search from the next place, f, ends where the one from e does
   pub find-next : (f : ℕ) → f ≡ e + 1 → e < length x → (getD x e 0 ≡ w → ⊥) → sought f ≡ sought e
   find-next f q h n = ap sought q ∙ find-on h n
+
+-- ---- some bytes at once
+
+-- whether none of the k bytes of x from e on is w, as the code joins its tests
+unfoldable pub noneOf : ℕ → ℕ → List ℕ → ℕ → Bool
+noneOf zero w x e = true
+noneOf (suc zero) w x e = not (eqb (getD x e 0) w)
+noneOf (suc (suc k)) w x e = noneOf (suc k) w x e && not (eqb (getD x (e + suc k) 0) w)
+
+other : (a b : ℕ) → not (eqb a b) ≡ true → a ≡ b → ⊥
+other a b t q = clash (rw (eq-eqb a b q) at t) refl
+
+-- then the search from behind them ends where the one from e does
+pub find-behind : (k w : ℕ) (x : List ℕ) (e : ℕ) → e + suc k ≤ length x → noneOf (suc k) w x e ≡ true
+    → sought w x e (e + suc k) ≡ sought w x e e
+unfolding noneOf
+find-behind zero w x e h t = find-next w x e (e + 1) refl (omega arith) (other (getD x e 0) w t)
+find-behind (suc k) w x e h t =
+    let rest : noneOf (suc k) w x e ≡ true = and-left _ _ t in
+    let last = and-right (noneOf (suc k) w x e) _ t in
+    find-next w x (e + suc k) (e + suc (suc k)) (omega arith) (omega arith) (other (getD x (e + suc k) 0) w last)
+    ∙ find-behind k w x e (omega arith) rest

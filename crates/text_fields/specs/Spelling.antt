@@ -61,6 +61,22 @@ decimal-length (suc k) v h =
     (λ l. rw (decimal-digit v l) (omega arith))
     (λ l. omega (arith, length-tens v l, decimal-length k (v / 10) (omega (arith, pow-suc 10 (suc k)))))
 
+-- one of 10 ^ k or more has more than k
+pub decimal-least : (k v : ℕ) → 10 ^ k ≤ v → suc k ≤ length (decimal v)
+decimal-least zero v h = decimal-some v
+decimal-least (suc k) v h =
+    let up = pow-suc 10 k in
+    let low : 1 ≤ 10 ^ k = pow-some k in
+    omega (arith, length-tens v (omega arith), decimal-least k (v / 10) (omega arith))
+  where
+    pow-some : (k : ℕ) → 1 ≤ 10 ^ k
+    pow-some zero = omega arith
+    pow-some (suc k) = omega (arith, pow-suc 10 k, pow-some k)
+
+-- so the digits of a number are counted by comparing it with the powers of ten
+pub decimal-places : (k v : ℕ) → 10 ^ k ≤ v → v < 10 ^ suc k → suc k ≡ length (decimal v)
+decimal-places k v h l = omega (arith, decimal-least k v h, decimal-length k v l)
+
 front : (v : ℕ) → 10 ≤ v → getD (decimal v) 0 0 ≡ getD (decimal (v / 10)) 0 0
 front v h = ap (λ (s : List ℕ). getD s 0 0) (decimal-tens v h)
     ∙ List·getD-append (decimal (v / 10)) ((48 + v % 10) ∷ []) 0 0 (decimal-some (v / 10))

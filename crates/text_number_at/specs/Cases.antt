@@ -1,12 +1,12 @@
 -- Worked cases, computed: what a reader can check by eye.
 use mathlib.Core.Path.{_≡_, refl}
 use mathlib.Core.Bool.{true, false}
-use mathlib.Core.List.{[], _∷_, map}
+use mathlib.Core.List.{[], _∷_}
 use Rattle.text_fields.specs.Quoted.{quoted}
 use Rattle.text_fields.specs.Finding.{before}
 use Rattle.text_numbers.specs.Numbers.{numberTo, digitsTo}
-use Rattle.text_numbers.specs.declared.Number.the-variants as number
-use Rattle.text_number_at.specs.NumberAt.{numberAt, noDigit, orZero, fourAt, fourLeft}
+use Rattle.text_number_at.specs.Four.{together, allDigits, valued}
+use Rattle.text_number_at.specs.NumberAt.{numberAt, fourAt, fourLeft}
 use Rattle.text_number_at.specs.declared.FieldNumber.the-variants.{Value, Malformed}
 
 -- the numbers of "S<tab>12<tab>3456<tab>65535", and where they end
@@ -21,10 +21,7 @@ pub no-numbers : (numberAt (quoted "0123") 0 ≡ Malformed) × (numberAt (quoted
 unfolding before numberTo digitsTo
 no-numbers = (refl, refl, refl, refl, refl)
 
--- the quick way: which bytes are no digits; four bytes from a place on; and whether they are a whole field, which the line or a tab ends
-pub digits : map noDigit (47 ∷ 48 ∷ 57 ∷ 58 ∷ 9 ∷ []) ≡ true ∷ false ∷ false ∷ true ∷ true ∷ []
-digits = refl
-
+-- the quick way: four bytes from a place on; and whether they are a whole field, which the line or a tab ends
 pub fours : (fourAt (quoted "S\t12\t3456") 5 ≡ quoted "3456") × (fourAt (quoted "1") 0 ≡ 49 ∷ 0 ∷ 0 ∷ 0 ∷ [])
 fours = (refl, refl)
 
@@ -32,5 +29,14 @@ pub whole-fours : (fourLeft (quoted "1234") 0 ≡ true) × (fourLeft (quoted "12
     × (fourLeft (quoted "123") 0 ≡ false) × (fourLeft (quoted "S\t123") 2 ≡ false) × (fourLeft (quoted "S\t1234") 2 ≡ true)
 whole-fours = (refl, refl, refl, refl, refl, refl)
 
-pub values : orZero (number.Value 7) ∷ orZero number.Malformed ∷ [] ≡ 7 ∷ 0 ∷ []
-values = refl
+-- four digits at once: they pass up to 9, ten does not at any of the four places, nor does what stands for a letter
+pub pass : (allDigits (together 1 2 3 4) ≡ true) × (allDigits (together 9 9 9 9) ≡ true) × (allDigits (together 10 2 3 4) ≡ false)
+    × (allDigits (together 1 10 3 4) ≡ false) × (allDigits (together 1 2 10 4) ≡ false) × (allDigits (together 1 2 3 10) ≡ false)
+    × (allDigits (together 1 2 3 72) ≡ false) × (allDigits (together 138 2 3 4) ≡ false)
+unfolding allDigits
+pass = (refl, refl, refl, refl, refl, refl, refl, refl)
+
+-- and what they spell
+pub spell : (valued (together 1 2 3 4) ≡ 1234) × (valued (together 9 9 9 9) ≡ 9999)
+unfolding valued
+spell = (refl, refl)

@@ -1,3 +1,5 @@
+-- Four bytes held in one number, whether they are digits, and the number that they spell.
+pub mod Four
 -- The number at a place of a line and where it ends, and the quick way for four digits.
 pub mod NumberAt
 -- Worked cases, computed.

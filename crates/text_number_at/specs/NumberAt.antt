@@ -1,16 +1,15 @@
 -- The field at a place of a line as a number, with the place where it ends; and the quick way for a field of four digits, which most are.
-use Prim.Native.Nat.{ℕ, zero, suc, _+_, _*_, _-_, _<_, _≤_}
+use Prim.Native.Nat.{ℕ, suc, _+_, _*_, _-_, _<_, _≤_}
 use mathlib.Core.Path.{_≡_, refl, sym, ap, _∙_}
 use mathlib.Core.Bool.{Bool, true, false, _&&_, _||_}
 use mathlib.Core.List.{List, [], _∷_, _++_}
 use mathlib.Core.Logic.{⊎-elim}
-use native.Mathlib.Nat.{not-suc-le-zero, le-of-suc-le-suc}
 use native.Mathlib.Omega.{arith}
-use lib.Dec.{leb, ltb, eqb, lit≤}
+use lib.Dec.{leb, eqb, lit≤}
 use lib.ListN.{length, drop, getD, drop-of-length-le}
 use lib.Seq.{drop-cons}
-use borrow.Author.Tests.{le-ltb, ltb-false, leb-true, eqb-true, ne-eqb}
-use Rattle.laws.specs.Tests.{by-test, by-order, clash, and-left, and-right, or-cases}
+use borrow.Author.Tests.{le-ltb, leb-true, eqb-true, ne-eqb}
+use Rattle.laws.specs.Tests.{by-order, clash, and-left, and-right, or-cases}
 use Rattle.text_fields.specs.Finding.{before, lacks, before-at, before-none}
 use Rattle.text_fields.specs.Fields.{fieldAt}
 use Rattle.text_numbers.specs.Numbers.{digitsTo, numberTo, readNumber}
@@ -18,6 +17,7 @@ use Rattle.text_fields.specs.Spelling.{decimal-lacks}
 use Rattle.text_numbers.specs.Canonical.{number-text}
 use Rattle.text_numbers.specs.declared.Number.{Number}
 use Rattle.text_numbers.specs.declared.Number.the-variants.{Value, Malformed}
+use Rattle.text_number_at.specs.Four.{Spelt}
 use Rattle.text_number_at.specs.declared.FieldNumber.{FieldNumber}
 use Rattle.text_number_at.specs.declared.FieldNumber.the-variants as field
 
@@ -62,15 +62,6 @@ module _ (line : List ℕ) (from : ℕ) where
 
 -- ---- four digits
 
--- whether a byte is no digit
-abbrev pub noDigit : ℕ → Bool
-noDigit b = ltb b 48 || ltb 57 b
-
--- the number that was read; 0 for none
-abbrev pub orZero : Number → ℕ
-orZero (Value v) = v
-orZero Malformed = 0
-
 -- the four bytes from a place on
 abbrev pub fourAt : List ℕ → ℕ → List ℕ
 fourAt line from = getD line from 0 ∷ getD line (from + 1) 0 ∷ getD line (from + 2) 0 ∷ getD line (from + 3) 0 ∷ []
@@ -79,65 +70,32 @@ fourAt line from = getD line from 0 ∷ getD line (from + 1) 0 ∷ getD line (fr
 abbrev pub fourLeft : List ℕ → ℕ → Bool
 fourLeft line from = leb (from + 4) (length line) && (leb (length line) (from + 4) || eqb (getD line (from + 4) 0) 9)
 
-module _ (b : ℕ) (t : noDigit b ≡ false) where
-  pub digit-low : 48 ≤ b
-  digit-low = by-test (ltb b 48) (λ u. clash refl (rw u at t)) (λ u. ltb-false b 48 u)
-
-  pub digit-high : b ≤ 57
-  digit-high = by-test (ltb 57 b) (λ u. clash refl (rw (le-ltb b 48 digit-low, u) at t)) (λ u. ltb-false 57 b u)
-
-  -- one digit is read
-  digit-on : (v : ℕ) (bs : List ℕ) → v * 10 + (b - 48) ≤ 65535 → digitsTo 65535 v (b ∷ bs) ≡ digitsTo 65535 (v * 10 + (b - 48)) bs
-  unfolding digitsTo
-  digit-on v bs h = rw (le-ltb b 48 digit-low, le-ltb 57 b digit-high, le-ltb _ _ h)
-
--- a byte that is no digit, at any place
-digits-other : (v : ℕ) (f : List ℕ) (j : ℕ) → j < length f → noDigit (getD f j 0) ≡ true → digitsTo 65535 v f ≡ Malformed
+-- one digit is read
+digit-on : (b : ℕ) → 48 ≤ b → b ≤ 57 → (v : ℕ) (bs : List ℕ) → v * 10 + (b - 48) ≤ 65535
+    → digitsTo 65535 v (b ∷ bs) ≡ digitsTo 65535 (v * 10 + (b - 48)) bs
 unfolding digitsTo
-digits-other v [] j h t = absurd (not-suc-le-zero h)
-digits-other v (b ∷ bs) zero h t = by-test (ltb b 48) (λ u. rw u) (λ u. rw (u, rw u at t))
-digits-other v (b ∷ bs) (suc j) h t =
-    by-test (ltb b 48) (λ u. rw u)
-    (λ u. rw u (by-test (ltb 57 b) (λ w. rw w)
-    (λ w. rw w (by-test (ltb 65535 (v * 10 + (b - 48))) (λ x. rw x)
-    (λ x. rw x (digits-other (v * 10 + (b - 48)) bs j (le-of-suc-le-suc h) t))))))
-
-pub number-byte : (f : List ℕ) (j : ℕ) → j < length f → noDigit (getD f j 0) ≡ true → readNumber f ≡ Malformed
-unfolding numberTo
-number-byte [] j h t = refl
-number-byte (b ∷ []) j h t = digits-other 0 (b ∷ []) j h t
-number-byte (b ∷ c ∷ bs) j h t = by-test (eqb b 48) (λ u. rw u) (λ u. rw u (digits-other 0 (b ∷ c ∷ bs) j h t))
-
--- what four digits add up to
-pub four-span : (a b c d : ℕ) → noDigit a ≡ false → noDigit b ≡ false → noDigit c ≡ false → noDigit d ≡ false
-    → (53328 ≤ a * 1000 + b * 100 + c * 10 + d) × (a * 1000 + b * 100 + c * 10 + d ≤ 63327)
-four-span a b c d ta tb tc td =
-    (omega (arith, digit-low a ta, digit-low b tb, digit-low c tc, digit-low d td), omega (arith, digit-high a ta, digit-high b tb, digit-high c tc, digit-high d td))
+digit-on b low high v bs h = rw (le-ltb b 48 low, le-ltb 57 b high, le-ltb _ _ h)
 
 -- four digits, the first of which is not 0
-pub four-value : (a b c d : ℕ) → (a ≡ 48 → ⊥) → noDigit a ≡ false → noDigit b ≡ false → noDigit c ≡ false → noDigit d ≡ false
-    → readNumber (a ∷ b ∷ c ∷ d ∷ []) ≡ Value (a * 1000 + b * 100 + c * 10 + d - 53328)
+pub four-value : (a b c d v : ℕ) → Spelt a b c d v → readNumber (a ∷ b ∷ c ∷ d ∷ []) ≡ Value v
 unfolding numberTo digitsTo
-four-value a b c d n ta tb tc td =
-    let la = digit-low a ta in let ha = digit-high a ta in
-    let lb = digit-low b tb in let hb = digit-high b tb in
-    let lc = digit-low c tc in let hc = digit-high c tc in
-    let ld = digit-low d td in let hd = digit-high d td in
-    let e : (((0 * 10 + (a - 48)) * 10 + (b - 48)) * 10 + (c - 48)) * 10 + (d - 48) ≡ a * 1000 + b * 100 + c * 10 + d - 53328 = omega arith in
-    rw (ne-eqb a 48 n)
-    (digit-on a ta 0 (b ∷ c ∷ d ∷ []) (omega arith)
-    ∙ digit-on b tb (0 * 10 + (a - 48)) (c ∷ d ∷ []) (omega arith)
-    ∙ digit-on c tc ((0 * 10 + (a - 48)) * 10 + (b - 48)) (d ∷ []) (omega arith)
-    ∙ digit-on d td (((0 * 10 + (a - 48)) * 10 + (b - 48)) * 10 + (c - 48)) [] (omega arith)
+four-value a b c d v s =
+    let la = s .first .0 in let ha = s .first .1 in
+    let lb = s .second .0 in let hb = s .second .1 in
+    let lc = s .third .0 in let hc = s .third .1 in
+    let ld = s .fourth .0 in let hd = s .fourth .1 in
+    let is = s .is in
+    let e : (((0 * 10 + (a - 48)) * 10 + (b - 48)) * 10 + (c - 48)) * 10 + (d - 48) ≡ v = omega arith in
+    rw (ne-eqb a 48 (λ z. omega arith))
+    (digit-on a (omega arith) ha 0 (b ∷ c ∷ d ∷ []) (omega arith)
+    ∙ digit-on b lb hb (0 * 10 + (a - 48)) (c ∷ d ∷ []) (omega arith)
+    ∙ digit-on c lc hc ((0 * 10 + (a - 48)) * 10 + (b - 48)) (d ∷ []) (omega arith)
+    ∙ digit-on d ld hd (((0 * 10 + (a - 48)) * 10 + (b - 48)) * 10 + (c - 48)) [] (omega arith)
     ∙ ap Value e)
 
 -- the text of a number has no tab
 number-lacks : (f : List ℕ) (v : ℕ) → readNumber f ≡ Value v → lacks 9 f ≡ true
 number-lacks f v e = rw (number-text 65535 f v e .0) (decimal-lacks 9 (lit≤ tt) v)
-
-or-zero-some : (n : Number) → 0 < orZero n → n ≡ Value (orZero n)
-or-zero-some (Value v) h = refl
-or-zero-some Malformed h = absurd (omega arith)
 
 drop-next : (x : List ℕ) (e f : ℕ) → f ≡ e + 1 → e < length x → drop e x ≡ getD x e 0 ∷ drop f x
 drop-next x e f q h = let k : suc e ≡ f = omega arith in drop-cons x e 0 h ∙ ap (λ (j : ℕ). getD x e 0 ∷ drop j x) k
@@ -171,9 +129,5 @@ module _ (line : List ℕ) (from : ℕ) (t : fourLeft line from ≡ true) where
       (λ h. ap (λ (l : List ℕ). before 9 (fourAt line from ++ l)) (drop-of-length-le line h) ∙ before-none 9 (fourAt line from) n)
 
   -- the quick way gives what the field says
-  pub four-quick : 0 < orZero (readNumber (fourAt line from))
-      → field.Value (orZero (readNumber (fourAt line from))) (from + 4) ≡ numberAt line from
-  four-quick h =
-      let e = or-zero-some _ h in
-      let f = four-field (number-lacks _ _ e) in
-      rw f (ap (λ (n : Number). withEnd n (from + 4)) (sym e))
+  pub four-quick : (v : ℕ) → readNumber (fourAt line from) ≡ Value v → field.Value v (from + 4) ≡ numberAt line from
+  four-quick v e = rw (four-field (number-lacks _ _ e)) (ap (λ (n : Number). withEnd n (from + 4)) (sym e))

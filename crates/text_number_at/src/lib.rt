@@ -1,9 +1,12 @@
 // Numbers read in place: the field that starts at a place of a line. Most numbers of a log have four digits, and those are read at once.
 ghost use mathlib.Core.Path.{_≡_};
-ghost use Prim.Native.Nat.{_+_, _≤_};
+ghost use mathlib.Core.List.{[], _∷_};
+ghost use Prim.Native.Nat.{_+_, _<_, _≤_};
 ghost use lib.ListN.{length};
 ghost use Rattle.text_numbers.specs.Numbers.{readNumber};
-ghost use Rattle.text_number_at.specs.NumberAt.{noDigit, orZero, fourAt, fourLeft, numberAt};
+ghost use Rattle.text_numbers.specs.declared.Number.the-variants.{Value};
+ghost use Rattle.text_number_at.specs.Four.{together, allDigits, valued};
+ghost use Rattle.text_number_at.specs.NumberAt.{fourAt, fourLeft, numberAt};
 use laws::wide;
 use text_fields::field;
 use text_numbers::Number;
@@ -15,42 +18,50 @@ pub enum FieldNumber {
     Malformed,
 }
 
-// Whether a byte is no digit.
-fn no_digit(b: u8) -> bool
-    ensures { λ r. ⌜ r ≡ noDigit b ⌝ }
+// Four bytes as one number, the first one lowest: the machine reads it at once.
+fn together(a: u8, b: u8, c: u8, d: u8) -> u32
+    ensures { λ r. ⌜ r ≡ together a b c d ⌝ }
 {
-    if b < b'0' {
-        return true;
-    }
-    b'9' < b
+    wide(a) + 256 * wide(b) + 65536 * wide(c) + 16777216 * wide(d)
 }
 
-// The number that the four bytes from `from` on spell, or 0 where they spell none: 53328 is 48 * 1111.
-fn four(line: &[u8], from: usize) -> u16
-    requires { ⌜ from + 4 ≤ length (now line) ⌝ }
-    ensures { λ r. ⌜ r ≡ orZero (readNumber (fourAt (now (line .entry)) from)) ⌝ }
+// Whether each of four bytes held so is 9 at most. A larger one has its highest bit set, or gets it with 118 more. What the last one carries
+// out is not looked at.
+fn all_digits(x: u32) -> bool
+    ensures { λ r. ⌜ r ≡ allDigits x ⌝ }
 {
-    let a = line[from];
-    if a == b'0' {
-        return 0;
+    ((x as u64 + 0x76767676) | x as u64) & 0x80808080 == 0
+}
+
+// The number that four digits held so spell: two pairs at once, and the one behind the other.
+fn valued(x: u32) -> u16
+    requires { ⌜ x ≤ 0x09090909 ⌝ }
+    ensures { λ r. ⌜ r ≡ valued x ⌝ }
+{
+    let pairs = 10 * x + x / 256;
+    (pairs % 256 * 100 + pairs / 65536 % 256) as u16
+}
+
+// The number that four bytes spell, or 0: then they spell none, or one that begins with 0. 0x30303030 is b'0' four times.
+fn four(a: u8, b: u8, c: u8, d: u8) -> u16
+    ensures { λ r. ⌜ (0 < r → readNumber (a ∷ b ∷ c ∷ d ∷ []) ≡ Value r) ⌝ }
+{
+    let x = together(a, b, c, d) ^ 0x30303030;
+    if all_digits(x) {
+        if x % 256 == 0 {
+            return 0;
+        }
+        return valued(x);
     }
-    if no_digit(a) {
-        return 0;
-    }
-    let b = line[from + 1];
-    if no_digit(b) {
-        return 0;
-    }
-    let c = line[from + 2];
-    if no_digit(c) {
-        return 0;
-    }
-    let d = line[from + 3];
-    if no_digit(d) {
-        return 0;
-    }
-    let v = wide(a) * 1000 + wide(b) * 100 + wide(c) * 10 + wide(d);
-    (v - 53328) as u16
+    0
+}
+
+// The same for the four bytes from `from` on.
+fn four_at(line: &[u8], from: usize) -> u16
+    requires { ⌜ from + 4 ≤ length (now line) ⌝ }
+    ensures { λ r. ⌜ (0 < r → readNumber (fourAt (now (line .entry)) from) ≡ Value r) ⌝ }
+{
+    four(line[from], line[from + 1], line[from + 2], line[from + 3])
 }
 
 // Whether four bytes are left from `from` on, and behind them the end or a tab.
@@ -88,7 +99,7 @@ pub fn number_at(line: &[u8], from: usize) -> FieldNumber
     ensures { λ r. ⌜ r ≡ numberAt (now (line .entry)) from ⌝ }
 {
     if four_left(line, from) {
-        let v = four(line, from);
+        let v = four_at(line, from);
         if 0 < v {
             return FieldNumber::Value {
                 number: v,

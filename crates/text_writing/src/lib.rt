@@ -17,14 +17,23 @@ fn has_room(size: usize, at: usize, count: usize) -> bool
     at <= size - count
 }
 
+// Puts one byte at `at`, where it has room, and answers the place behind it.
+pub fn put_byte_in(out: &mut [u8], at: usize, b: u8) -> usize
+    requires { ⌜ at + 1 ≤ length (now out) ⌝ }
+    ensures { λ r. ⌜ Put (now (out .entry)) at (b ∷ []) r (now (out .exit)) ⌝ }
+    ensures { λ r. ⌜ r ≤ at + 1 ⌝ }
+{
+    out[at] = b;
+    at + 1
+}
+
 // Puts one byte at `at` and answers the place behind it; without room nothing is written and the answer is `at`.
 pub fn put_byte(out: &mut [u8], at: usize, b: u8) -> usize
     ensures { λ r. ⌜ Put (now (out .entry)) at (b ∷ []) r (now (out .exit)) ⌝ }
     ensures { λ r. ⌜ r ≤ at + 1 ⌝ }
 {
     if at < out.len() {
-        out[at] = b;
-        return at + 1;
+        return put_byte_in(out, at, b);
     }
     at
 }
@@ -56,18 +65,39 @@ pub fn put_bytes(out: &mut [u8], at: usize, text: &[u8]) -> usize
 // The digit 0, b'0', as a wider number.
 const ZERO: u32 = 48;
 
-// How many digits `v` has.
+// How many digits `v` has, without a division.
 fn places(v: u32) -> usize
     ensures { λ r. ⌜ r ≡ length (decimal v) ⌝ }
     ensures { λ r. ⌜ (1 ≤ r) × (r ≤ 10) ⌝ }
 {
-    let mut k: usize = 1;
-    let mut rest = v;
-    while 10 <= rest {
-        rest /= 10;
-        k += 1;
+    if v < 10 {
+        return 1;
     }
-    k
+    if v < 100 {
+        return 2;
+    }
+    if v < 1000 {
+        return 3;
+    }
+    if v < 10000 {
+        return 4;
+    }
+    if v < 100000 {
+        return 5;
+    }
+    if v < 1000000 {
+        return 6;
+    }
+    if v < 10000000 {
+        return 7;
+    }
+    if v < 100000000 {
+        return 8;
+    }
+    if v < 1000000000 {
+        return 9;
+    }
+    10
 }
 
 // Puts the `k` digits of `v` at `at`, the last one first.
@@ -85,15 +115,24 @@ fn put_digits(out: &mut [u8], at: usize, k: usize, v: u32)
     out[i] = (ZERO + rest) as u8;
 }
 
+// Puts the decimal text of `v` at `at`, where it has room, and answers the place behind it.
+pub fn put_decimal_in(out: &mut [u8], at: usize, v: u32) -> usize
+    requires { ⌜ at + length (decimal v) ≤ length (now out) ⌝ }
+    ensures { λ r. ⌜ Put (now (out .entry)) at (decimal v) r (now (out .exit)) ⌝ }
+    ensures { λ r. ⌜ r ≤ at + 10 ⌝ }
+{
+    let k = places(v);
+    put_digits(out, at, k, v);
+    at + k
+}
+
 // Puts the decimal text of `v` at `at` and answers the place behind it; without room nothing is written and the answer is `at`.
 pub fn put_decimal(out: &mut [u8], at: usize, v: u32) -> usize
     ensures { λ r. ⌜ Put (now (out .entry)) at (decimal v) r (now (out .exit)) ⌝ }
     ensures { λ r. ⌜ r ≤ at + 10 ⌝ }
 {
-    let k = places(v);
-    if has_room(out.len(), at, k) {
-        put_digits(out, at, k, v);
-        return at + k;
+    if has_room(out.len(), at, places(v)) {
+        return put_decimal_in(out, at, v);
     }
     at
 }

@@ -1,34 +1,52 @@
--- `places` meets its contract. The loop's invariant: the digits counted and those of the rest are the digits of v, and one more.
-use Prim.Native.Nat.{_+_, _≤_}
-use mathlib.Core.Path.{_≡_, ap}
+-- `places` meets its contract: it compares with the powers of ten, one after the other.
+use mathlib.Core.Path.{sym, ap}
 use native.Mathlib.Omega.{arith}
 use lib.ListN.{length}
-use borrow.Author.Needs.{needs}
-use Rattle.text_fields.specs.Spelling.{decimal-digit, decimal-length, length-tens}
-use Rattle.text_fields.specs.Decimal.{decimal}
+use Rattle.text_fields.specs.Spelling.{decimal-digit, decimal-places}
 use Rattle.text_writing.proofs.places.Statement.{statement}
 use Rattle.text_writing.proofs.places.Tie as tie
 
-abbrev Inv-loop : tie.InvT-loop
-Inv-loop v k₀ rest₀ k rest = (1 ≤ k) × (k + length (decimal rest) ≡ length (decimal v) + 1) × (length (decimal v) ≤ 10)
+returns : tie.Need-returns
+returns c = (sym (ap length (decimal-digit _ (omega arith))), (omega arith, omega arith))
 
-abbrev μ-loop : tie.MeasureT-loop
-μ-loop v k₀ rest₀ k rest = rest
+returns-2 : tie.Need-returns-2
+returns-2 c = (decimal-places 1 _ (omega arith) (omega arith), (omega arith, omega arith))
 
-loop-holds : tie.Need-loop-holds Inv-loop μ-loop
-loop-holds c = (omega arith, omega arith, decimal-length 9 _ (omega arith))
+returns-3 : tie.Need-returns-3
+returns-3 c = (decimal-places 2 _ (omega arith) (omega arith), (omega arith, omega arith))
 
-add-k : tie.Need-add-k Inv-loop μ-loop
-add-k c = search needs
+returns-4 : tie.Need-returns-4
+returns-4 c = (decimal-places 3 _ (omega arith) (omega arith), (omega arith, omega arith))
 
-loop-less : tie.Need-loop-less Inv-loop μ-loop
-loop-less c = omega arith
+returns-5 : tie.Need-returns-5
+returns-5 c = (decimal-places 4 _ (omega arith) (omega arith), (omega arith, omega arith))
 
-loop-again : tie.Need-loop-again Inv-loop μ-loop
-loop-again c = let l = c .before .loop in (omega arith, omega (arith, length-tens (l .rest) (omega arith)), l .inv .2)
+returns-6 : tie.Need-returns-6
+returns-6 c = (decimal-places 5 _ (omega arith) (omega arith), (omega arith, omega arith))
 
-returns : tie.Need-returns Inv-loop μ-loop
-returns c = let l = c .before .loop in let e = ap length (decimal-digit (l .rest) (omega arith)) in (omega arith, (omega arith, omega arith))
+returns-7 : tie.Need-returns-7
+returns-7 c = (decimal-places 6 _ (omega arith) (omega arith), (omega arith, omega arith))
+
+returns-8 : tie.Need-returns-8
+returns-8 c = (decimal-places 7 _ (omega arith) (omega arith), (omega arith, omega arith))
+
+returns-9 : tie.Need-returns-9
+returns-9 c = (decimal-places 8 _ (omega arith) (omega arith), (omega arith, omega arith))
+
+returns-10 : tie.Need-returns-10
+returns-10 c = (decimal-places 9 _ (omega arith) (omega arith), (omega arith, omega arith))
 
 pub places-spec : {M : Type 1} → statement M
-places-spec = tie.close (tie.spec Inv-loop μ-loop loop-holds add-k loop-less loop-again returns)
+places-spec =
+    tie.close
+    (tie.spec
+    returns
+    returns-2
+    returns-3
+    returns-4
+    returns-5
+    returns-6
+    returns-7
+    returns-8
+    returns-9
+    returns-10)

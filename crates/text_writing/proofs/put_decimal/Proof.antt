@@ -5,7 +5,7 @@ use native.Mathlib.Omega.{arith}
 use lib.ListN.{length}
 use borrow.Author.Tests.{leb-true, leb-false}
 use borrow.Author.Needs.{needs}
-use Rattle.text_writing.specs.Putting.{put-said, put-no}
+use Rattle.text_writing.specs.Putting.{put-no}
 use Rattle.text_writing.proofs.put_decimal.Statement.{statement}
 use Rattle.text_writing.proofs.put_decimal.Tie as tie
 
@@ -15,25 +15,16 @@ places-requires c κs = search needs
 has-room-requires : tie.Need-has-room-requires
 has-room-requires c κs = search needs
 
-put-digits-requires : tie.Need-put-digits-requires
-put-digits-requires c κs = let p = c .before .before .before .places .ensures in
-    (p .0, p .1 .0, leb-true _ _ (sym (c .before .before .has-room .ensures) ∙ c .before .if1 .taken))
-
-add-result : tie.Need-add-result
-add-result c = let b = c .before .before .before .before .before .before in
-    omega (arith, leb-true (b .before .before .args .at + b .places .result) (length (b .before .before .args .out .now)) (sym (c .before .before .before .before .before .has-room .ensures) ∙ c .before .before .before .before .if1 .taken))
+put-decimal-in-requires : tie.Need-put-decimal-in-requires
+put-decimal-in-requires c κs = let b = c .before .before .before in
+    let a = b .before .before .args in
+    omega (arith, b .places .ensures .0, leb-true (a .at + b .places .result) (length (a .out .now)) (sym (c .before .before .has-room .ensures) ∙ c .before .if1 .taken))
 
 same-length : tie.Need-same-length
 same-length c = search needs
 
 returns : tie.Need-returns
-returns c = let b = c .before .before .before .before .before .before in
-    let a = b .before .before .args in (
-      put-said _ (a .at) _ _ _ (b .places .ensures .0)
-          (leb-true (a .at + b .places .result) (length (a .out .now)) (sym (c .before .before .before .before .before .has-room .ensures) ∙ c .before .before .before .before .if1 .taken))
-          (c .before .before .put-digits .ensures),
-      omega arith,
-    )
+returns c = search needs
 
 returns-2 : tie.Need-returns-2
 returns-2 c = let b = c .before .before in
@@ -46,8 +37,7 @@ put-decimal-spec =
     (tie.spec
     places-requires
     has-room-requires
-    put-digits-requires
-    add-result
+    put-decimal-in-requires
     same-length
     returns
     returns-2)
