@@ -9,13 +9,15 @@ use lib.ListN.{replicate}
 use Rattle.crc.specs.CheckByte.{checkByte, remainder, withByte, timesXs, timesX}
 use Rattle.laws.specs.Numbered.{countFrom}
 use Rattle.units.specs.Signed.{wordOf}
-use Rattle.refusals.specs.Refusals.{answer}
+use Rattle.refusals.specs.Refusals.{answer, given}
 use Rattle.page_settings.specs.declared.Settings.{Settings}
 use Rattle.sample.specs.declared.Sample.{Sample}
 use Rattle.sample.specs.Cases.{belowZero, sampled}
 use Rattle.pack_state.specs.Past.{past}
+use Rattle.pack_state.specs.State.{stateAfter, freshPack}
 use Rattle.bus_table.specs.Table.{table, rowOfCommand}
-use Rattle.bus.specs.Replies.{notInTable, cellAbove, replyRefusals, answerFor, answerAfter, frameOf, bytesOf, answerOfReply}
+use Rattle.bus_words.specs.Words.{sentWord, packWord, cellWord, wordAfter}
+use Rattle.bus.specs.Replies.{notInTable, cellAbove, replyRefusals, answerFor, answerAfter, bufferAfter, frameOf, bytesOf, answerOfReply, refusalsOf, answerTo, bufferOf}
 
 -- ---- (*) "Current -2 is sent as FE FF; -32768 as 00 80", with their check bytes
 
@@ -145,3 +147,30 @@ word-0 = refl
 pub no-page : answers 0 false 3 (0x41 ∷ 0x45 ∷ 0x47 ∷ 0x30 ∷ 0x39 ∷ 0x3A ∷ []) ≡ (0 ∷ 15 ∷ 15 ∷ 13 ∷ 13 ∷ 12 ∷ [])
 unfolding answerFor replyRefusals rowOfCommand table notInTable cellAbove
 no-page = refl
+
+-- ---- the buffer: the three bytes of cell 2, 4002 mV; and as it was after each refusal, 12 to 15, whatever its length
+
+abbrev buffers : (ℕ → List ℕ → List ℕ) → List (List ℕ)
+buffers after = after 0x31 (7 ∷ 8 ∷ 9 ∷ []) ∷ after 0x3A (7 ∷ 8 ∷ 9 ∷ []) ∷ after 0x34 (7 ∷ 8 ∷ 9 ∷ []) ∷ after 0x31 (7 ∷ 8 ∷ []) ∷ after 0x31 [] ∷ []
+
+abbrev afterwards : List (List ℕ)
+afterwards = (0xA2 ∷ 0x0F ∷ 0x6D ∷ []) ∷ (7 ∷ 8 ∷ 9 ∷ []) ∷ (7 ∷ 8 ∷ 9 ∷ []) ∷ (7 ∷ 8 ∷ []) ∷ [] ∷ []
+
+pub buffers-said : (buffers (bufferAfter page (past (four ∷ []) 0)) ≡ afterwards) × (bufferAfter page (past [] 0) 0x31 (7 ∷ 8 ∷ 9 ∷ []) ≡ 7 ∷ 8 ∷ 9 ∷ [])
+unfolding bufferAfter answerAfter answerFor replyRefusals rowOfCommand table notInTable cellAbove frameOf wordAfter sentWord cellWord checkByte remainder
+    withByte timesXs timesX
+buffers-said = (refl, refl)
+
+pub buffers-of-a-state
+    : (buffers (bufferOf (stateAfter page (past (four ∷ []) 0))) ≡ afterwards) × (bufferOf (freshPack page) 0x31 (7 ∷ 8 ∷ 9 ∷ []) ≡ 7 ∷ 8 ∷ 9 ∷ [])
+unfolding bufferOf answerTo answerFor replyRefusals rowOfCommand table notInTable cellAbove frameOf sentWord cellWord stateAfter freshPack checkByte
+    remainder withByte timesXs timesX
+buffers-of-a-state = (refl, refl)
+
+-- "The others name word 0": the table of a state, 12 to 15.
+pub numbers-of-a-state
+    : (given (refusalsOf (freshPack page) 0x3A 3) ∷ given (refusalsOf (freshPack page) 0x34 2) ∷ given (refusalsOf (freshPack page) 0x33 2)
+    ∷ given (refusalsOf (freshPack page) 0x33 3) ∷ given (refusalsOf (freshPack page) 0x41 3) ∷ [])
+    ≡ (answer 12 0 ∷ answer 13 0 ∷ answer 14 0 ∷ answer 15 0 ∷ answer 0 0 ∷ [])
+unfolding replyRefusals rowOfCommand table notInTable cellAbove freshPack
+numbers-of-a-state = refl
