@@ -148,6 +148,11 @@ module _ (page : Settings) (p : Past) where
   sent-word-is (Cell k) = refl
   sent-word-is (Whole w) = pack-word-is w
 
+  -- 0x45 has the bits above, of the raised protections and the switches that the page and the past say.
+  pub word-0x45 : wordAfter page p 0x45 ≡ withSwitches (raisedAfter (page .limits) (p .history)) (switchAfter page p)
+  unfolding wordAfter rowOfCommand table sentWord packWord
+  word-0x45 = refl
+
   -- "Never more set bits than K."
   pub bled-word-few : ones (wordAfter page p 0x46) ≤ page .rules .k
   unfolding wordAfter rowOfCommand table sentWord packWord bledAfter

@@ -49,7 +49,7 @@ use Rattle.pack.specs.Kept.{pageOf, pastAfter, packAfter}
 use Rattle.pack.specs.Calls.{page-accepted, offered-is}
 use Rattle.pack.specs.After.{after, after-is}
 use Rattle.pack_shown.specs.declared.Decision.{Decision}
-use Rattle.pack_shown.specs.Shown.{switchAfter, switchesWord, decisionAfter, decisionOf}
+use Rattle.pack_shown.specs.Shown.{switchAfter, decisionAfter, decisionOf}
 use Rattle.pack_shown.specs.Decided.{decision-is}
 use Rattle.bus_words.specs.Demands.{own-bit}
 use Rattle.demands.specs.BledWords.{bledWordsAfter}
