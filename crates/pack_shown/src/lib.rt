@@ -1,6 +1,7 @@
 // What the state of a pack shows: the switches, the mode, and the five fields of a line of the replay.
 ghost use mathlib.Core.Path.{_≡_};
 ghost use Rattle.laws.specs.Bits.{hasBit};
+ghost use Rattle.guard_raised.specs.Words.{raisedWord};
 ghost use Rattle.pack_shown.specs.Shown.{switchOn, switchesOf, modeNumber, modeOrder, firstMode, flowMode, modeOf, decisionOf};
 use bleed_wants::is_charging;
 use guard_raised::blocks;
@@ -103,6 +104,21 @@ pub fn mode(p: Pack) -> u16
     0
 }
 
+// The switches that are on, where `raised` is the word of raised protections. With none raised nothing is blocked, and they are the
+// commanded ones.
+fn switches_with(p: Pack, raised: u16) -> u16
+    requires { ⌜ raised ≡ raisedWord (p .protections) ⌝ }
+    ensures { λ r. ⌜ r ≡ switchesOf p ⌝ }
+{
+    if raised == 0 {
+        if p.sampled {
+            return p.command as u16 % 4;
+        }
+        return 0;
+    }
+    switches(p)
+}
+
 // The five fields of a line of the replay.
 pub fn decide(p: Pack) -> Decision
     ensures { λ r. ⌜ r ≡ decisionOf p ⌝ }
@@ -110,7 +126,7 @@ pub fn decide(p: Pack) -> Decision
     let ps = p.protections;
     let b = p.balance;
     let raised = raised_word(ps);
-    let fets = switches(p);
+    let fets = switches_with(p, raised);
     let mode = mode(p);
     Decision {
         tick: p.tick,
