@@ -26,11 +26,13 @@ pub digits : map noDigit (47 ∷ 48 ∷ 57 ∷ 58 ∷ 9 ∷ []) ≡ true ∷ fal
 digits = refl
 
 pub fours : (fourAt (quoted "S\t12\t3456") 5 ≡ quoted "3456") × (fourAt (quoted "1") 0 ≡ 49 ∷ 0 ∷ 0 ∷ 0 ∷ [])
-fours = (refl, refl)
+    × (fourAt [] 0 ≡ 0 ∷ 0 ∷ 0 ∷ 0 ∷ [])
+fours = (refl, refl, refl)
 
 pub whole-fours : (fourLeft (quoted "1234") 0 ≡ true) × (fourLeft (quoted "1234\t5") 0 ≡ true) × (fourLeft (quoted "12345") 0 ≡ false)
     × (fourLeft (quoted "123") 0 ≡ false) × (fourLeft (quoted "S\t123") 2 ≡ false) × (fourLeft (quoted "S\t1234") 2 ≡ true)
-whole-fours = (refl, refl, refl, refl, refl, refl)
+    × (fourLeft (49 ∷ 50 ∷ 51 ∷ 52 ∷ 8 ∷ []) 0 ≡ false) × (fourLeft (49 ∷ 50 ∷ 51 ∷ 52 ∷ 10 ∷ []) 0 ≡ false)
+whole-fours = (refl, refl, refl, refl, refl, refl, refl, refl)
 
 pub values : orZero (number.Value 7) ∷ orZero number.Malformed ∷ [] ≡ 7 ∷ 0 ∷ []
 values = refl
