@@ -6,3 +6,5 @@ pub mod Cases
 pub mod Bounds
 -- Demand 2 on the bus: after any load and events the word of each command is what document 01 says.
 pub mod Demands
+-- Computed words of a state.
+pub mod OfState

@@ -16,7 +16,7 @@ bits-read : map (hasBit 0x8005) (0 ∷ 1 ∷ 2 ∷ 3 ∷ 14 ∷ 15 ∷ 16 ∷ []
 unfolding hasBit
 bits-read = refl
 
-bits-set : withBitIf true 5 15 ∷ withBitIf true 5 1 ∷ withBitIf true 5 2 ∷ withBitIf false 5 1 ∷ withBitIf true 5 16 ∷ [] ≡ 0x8005 ∷ 7 ∷ 5 ∷ 5 ∷ 5 ∷ []
+bits-set : withBitIf true 5 15 ∷ withBitIf true 5 1 ∷ withBitIf true 5 2 ∷ withBitIf false 5 1 ∷ withBitIf true 4 16 ∷ [] ≡ 0x8005 ∷ 7 ∷ 5 ∷ 5 ∷ 4 ∷ []
 unfolding withBitIf withBit
 bits-set = refl
 

@@ -10,6 +10,8 @@ use Rattle.text_fields.specs.Finding.{lacks}
 use Rattle.text_fields.specs.Fields.{fieldsOf}
 use Rattle.text_numbers.specs.Numbers.{numberTo, digitsTo, readSigned}
 use Rattle.sample.specs.Cases.{sampled}
+use Rattle.page_settings.specs.Cases.{worked}
+use Rattle.pack_state.specs.State.{freshPack}
 use Rattle.pack.specs.Events.{offer, command}
 use Rattle.pack_shown.specs.Shown.{decision}
 use Rattle.log_entries.specs.declared.Kind.the-variants.{Offer, Command, Malformed}
@@ -17,6 +19,7 @@ use Rattle.log_entries.specs.Entry.{readCommand, cellsFrom, secondOf, firstOf, 
 use Rattle.log_answers.specs.declared.Told.the-variants.{Decided, Refused}
 use Rattle.log_answers.specs.Says.{eventsBehind}
 use Rattle.log_answers.specs.Seventeen.{isSeventeen, isMalformed}
+use Rattle.log_answers.specs.Tell.{outcomeOf, tell}
 
 -- 17 alone, and a decision is no refusal, whatever it shows
 pub seventeens : map isSeventeen (Refused 17 ∷ Refused 16 ∷ Refused 18 ∷ Decided (decision 17 17 17 17 17) ∷ []) ≡ true ∷ false ∷ false ∷ false ∷ []
@@ -31,3 +34,8 @@ pub events
     ≡ command 4 ∷ offer (sampled 2 (3001 ∷ 3002 ∷ 0 ∷ 0 ∷ 0 ∷ 0 ∷ 0 ∷ 0 ∷ 0 ∷ 0 ∷ []) (negsuc 6) 2981 2992) ∷ command 3 ∷ command 1 ∷ []
 unfolding eventsBehind readEntry fieldsSay readSample firstOf secondOf cellsFrom readCommand lacks fieldsOf numberTo digitsTo readSigned
 events = refl
+
+-- "It gives 17": a malformed line, and the pack behind it as it was
+pub malformed-told : tell (freshPack worked) (quoted "F\t03") ≡ record { kind = Malformed; told = Refused 17; pack = freshPack worked }
+unfolding tell outcomeOf readEntry fieldsSay readSample firstOf secondOf cellsFrom readCommand lacks fieldsOf numberTo digitsTo readSigned
+malformed-told = refl

@@ -116,3 +116,10 @@ pub in-turn : (readNumbers true (quoted "7" ∷ quoted "2981" ∷ quoted "2992" 
     × (readNumbers false [] ≡ malformed)
 unfolding readNumbers firstOf secondOf cellsFrom withSign numberTo digitsTo
 in-turn = (refl, refl, refl, refl)
+
+-- the first field is one letter, and no other: none, the letters before `F` and `S`, a byte 0
+pub letters-wrong : (readEntry (quoted "\t3") ≡ malformed) × (readEntry (quoted "\t1\t2\t3") ≡ malformed) × (readEntry (quoted "E\t3") ≡ malformed)
+    × (readEntry (quoted "R\t1\t2\t3") ≡ malformed) × (readEntry (0 ∷ 9 ∷ 51 ∷ []) ≡ malformed) × (readEntry (quoted "G\t3") ≡ malformed)
+    × (readEntry (quoted "T\t1\t2\t3") ≡ malformed)
+unfolding readEntry fieldsSay readSample firstOf secondOf cellsFrom readCommand lacks fieldsOf numberTo digitsTo readSigned
+letters-wrong = (refl, refl, refl, refl, refl, refl, refl)

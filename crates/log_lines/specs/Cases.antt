@@ -98,3 +98,10 @@ wholes = (refl, refl, refl)
 -- one line more: its answer behind the text, and the state behind it
 pub one-more : withAnswer count tell (written (9 ∷ []) 4) (65 ∷ []) ≡ record { text = 9 ∷ 4 ∷ 10 ∷ []; state = 5 }
 one-more = refl
+
+-- a tab is a byte of a line; 130 bytes are one more than enough; bytes moved up to the buffer's end; the parts of what is reached; a later round's end
+pub more : (whole (9 ∷ 10 ∷ []) ≡ (9 ∷ []) ∷ []) × (carried true 130 ≡ 129) × (moveDown (1 ∷ 2 ∷ 3 ∷ 4 ∷ []) 2 2 ≡ 3 ∷ 4 ∷ 3 ∷ 4 ∷ [])
+    × (moveDown (1 ∷ 2 ∷ 3 ∷ 4 ∷ []) 1 3 ≡ 2 ∷ 3 ∷ 4 ∷ 4 ∷ []) × (moveDown (1 ∷ 2 ∷ 3 ∷ 4 ∷ []) 3 1 ≡ 4 ∷ 2 ∷ 3 ∷ 4 ∷ [])
+    × (reached {S = ℕ} 2 (7 ∷ []) 5 ≡ record { used = 2; text = 7 ∷ []; state = 5 }) × (doneBehind false (round [] true [] ∷ []) ≡ true)
+unfolding whole carried moveDown
+more = (refl, refl, refl, refl, refl, refl, refl)

@@ -4,3 +4,5 @@ pub mod Texts
 pub mod Room
 -- Laws: the texts as the code puts them together, and how long they can be.
 pub mod Writing
+-- Worked texts, computed.
+pub mod Cases

@@ -8,3 +8,5 @@ pub mod Steps
 pub mod Absent
 -- Computed cases: the tick, the starred seven samples with the start cell, who rests and who is bled at each, and a protection of mask 0 that stops bleeding.
 pub mod Cases
+-- A computed case in which n, K and R are unlike.
+pub mod Unlike

@@ -1,5 +1,5 @@
 -- "Word 0 reads 0xA417" gives 2, "word 0 is otherwise not 0x17A4" gives 3: words below, above and beside the mark, and the mark itself, whose
--- page goes on to row 4.
+-- page goes on to row 4. And pages to which several rows apply: the lowest number is given, with the lowest word at fault of its row.
 -- Assumes nothing.
 use mathlib.Core.Path.{_≡_, refl}
 use mathlib.Core.List.{List, [], _∷_, map}
@@ -7,8 +7,16 @@ use Prim.Native.Nat.{ℕ}
 use lib.ListN.{replicate}
 use Rattle.crc.specs.CheckByte.{timesX, timesXs, withByte, remainder, checkByte}
 use Rattle.page_words.specs.Ranges.{wordAt}
+use Rattle.laws.specs.Numbered.{listFrom}
+use Rattle.units.specs.Signed.{signedOf}
+use Rattle.protections.specs.Table.{rowAt, table}
+use Rattle.page_words.specs.Ranges.{within, degreesFit, levelFits, levelOf}
+use Rattle.page_faults.specs.Kinds.{kindOf}
+use Rattle.page_faults.specs.Met.{levelMet, orderMet, onRow, kindMeets, meets}
 use Rattle.refusals.specs.Answers.{answerOf}
-use Rattle.page_judge.specs.Page.{refusals, judged}
+use Rattle.refusals.specs.Refusals.{answer}
+use Rattle.page_judge.specs.Page.{swappedWord, refusals, judged}
+use Rattle.page_judge.specs.Worked.{pageWith, put}
 
 -- A page that starts with these two bytes, 0 behind them.
 abbrev starts : ℕ → ℕ → List ℕ
@@ -24,3 +32,23 @@ pub marks
     ≡ 2 ∷ 3 ∷ 3 ∷ 3 ∷ 3 ∷ 3 ∷ 3 ∷ 3 ∷ 3 ∷ 4 ∷ []
 unfolding judged refusals wordAt checkByte remainder withByte timesXs timesX
 marks = refl
+
+-- The bytes of a word exchanged.
+pub swapped-words : map swappedWord (0x17A4 ∷ 0xFF00 ∷ 0x00FF ∷ 0x1234 ∷ []) ≡ 0xA417 ∷ 0x00FF ∷ 0xFF00 ∷ 0x3412 ∷ []
+swapped-words = refl
+
+-- 127 bytes that begin 17 A4 give 1. Word 15 not 0 and n 11 give 5; n 11 and N of protection 0 of 0 give 6; N of protection 7 of 0 and the
+-- levels of protection 0 in the wrong order give 7, words 53 before 16; those levels alone give 8.
+pub lowest
+    : map (λ b. answerOf (judged b))
+    ((0x17 ∷ 0xA4 ∷ replicate 125 0)
+    ∷ pageWith (put 15 1 ∷ put 1 11 ∷ [])
+    ∷ pageWith (put 1 11 ∷ put 18 0 ∷ [])
+    ∷ pageWith (put 53 0 ∷ put 16 4000 ∷ [])
+    ∷ pageWith (put 16 4000 ∷ [])
+    ∷ pageWith []
+    ∷ [])
+    ≡ answer 1 0 ∷ answer 5 15 ∷ answer 6 1 ∷ answer 7 53 ∷ answer 8 16 ∷ answer 0 0 ∷ []
+unfolding judged refusals meets kindOf kindMeets onRow levelMet orderMet listFrom wordAt within degreesFit levelFits levelOf signedOf rowAt table
+    checkByte remainder withByte timesXs timesX
+lowest = refl

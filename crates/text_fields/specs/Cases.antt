@@ -4,7 +4,7 @@ use mathlib.Core.Bool.{true, false}
 use mathlib.Core.List.{[], _∷_}
 use Rattle.text_fields.specs.Quoted.{quoted}
 use Rattle.text_fields.specs.Finding.{before, noneOf}
-use Rattle.text_fields.specs.Fields.{fieldsOf, fieldAt}
+use Rattle.text_fields.specs.Fields.{fieldsOf, fieldAt, lineOf}
 use Rattle.text_fields.specs.Decimal.{decimal}
 
 -- "S<tab>12<tab>": a trailing tab makes one more, empty field
@@ -33,3 +33,13 @@ pub texts : (decimal 0 ≡ quoted "0") × (decimal 10 ≡ quoted "10") × (decim
     × (decimal 1000000 ≡ quoted "1000000")
 unfolding decimal
 texts = (refl, refl, refl, refl, refl, refl)
+
+-- a tab alone parts: a byte below it and one above do not
+pub tabs-alone : (fieldsOf (65 ∷ 8 ∷ 0 ∷ 10 ∷ 66 ∷ []) ≡ (65 ∷ 8 ∷ 0 ∷ 10 ∷ 66 ∷ []) ∷ []) × (before 9 (8 ∷ 0 ∷ 10 ∷ 9 ∷ 66 ∷ []) ≡ 8 ∷ 0 ∷ 10 ∷ [])
+unfolding fieldsOf before
+tabs-alone = (refl, refl)
+
+-- a line of two fields, of one, and of none
+pub lines : (lineOf (quoted "S" ∷ quoted "12" ∷ []) ≡ quoted "S\t12\n") × (lineOf (quoted "S" ∷ []) ≡ quoted "S\n") × (lineOf [] ≡ quoted "\n")
+unfolding lineOf
+lines = (refl, refl, refl)

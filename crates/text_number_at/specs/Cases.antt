@@ -23,11 +23,13 @@ no-numbers = (refl, refl, refl, refl, refl)
 
 -- the quick way: four bytes from a place on; and whether they are a whole field, which the line or a tab ends
 pub fours : (fourAt (quoted "S\t12\t3456") 5 ≡ quoted "3456") × (fourAt (quoted "1") 0 ≡ 49 ∷ 0 ∷ 0 ∷ 0 ∷ [])
-fours = (refl, refl)
+    × (fourAt [] 0 ≡ 0 ∷ 0 ∷ 0 ∷ 0 ∷ [])
+fours = (refl, refl, refl)
 
 pub whole-fours : (fourLeft (quoted "1234") 0 ≡ true) × (fourLeft (quoted "1234\t5") 0 ≡ true) × (fourLeft (quoted "12345") 0 ≡ false)
     × (fourLeft (quoted "123") 0 ≡ false) × (fourLeft (quoted "S\t123") 2 ≡ false) × (fourLeft (quoted "S\t1234") 2 ≡ true)
-whole-fours = (refl, refl, refl, refl, refl, refl)
+    × (fourLeft (49 ∷ 50 ∷ 51 ∷ 52 ∷ 8 ∷ []) 0 ≡ false) × (fourLeft (49 ∷ 50 ∷ 51 ∷ 52 ∷ 10 ∷ []) 0 ≡ false)
+whole-fours = (refl, refl, refl, refl, refl, refl, refl, refl)
 
 -- four digits at once: they pass up to 9, ten does not at any of the four places, nor does what stands for a letter
 pub pass : (allDigits (together 1 2 3 4) ≡ true) × (allDigits (together 9 9 9 9) ≡ true) × (allDigits (together 10 2 3 4) ≡ false)

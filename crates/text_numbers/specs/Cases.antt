@@ -41,9 +41,9 @@ unfolding readSigned numberTo digitsTo
 no-signed-numbers = (refl, refl, refl, refl, refl, refl, refl, refl)
 
 -- the text of -32768
-pub signed-texts : signedText (negsuc 32767) ≡ quoted "-32768"
+pub signed-texts : (signedText (negsuc 32767) ≡ quoted "-32768") × (signedText (pos 32767) ≡ quoted "32767")
 unfolding signedText decimal
-signed-texts = refl
+signed-texts = (refl, refl)
 
 -- where the digits start: behind a minus, and else where the field does; past the end it stays
 pub starts : (pastMinus (quoted "-5") 0 ≡ 1) × (pastMinus (quoted "5-") 0 ≡ 0) × (pastMinus (quoted "S\t-5") 2 ≡ 3)
@@ -63,3 +63,9 @@ pub signed-fields : (signedNumber true (Value 7) ≡ signed.Value (negsuc 6)) ×
     × (signedNumber false Malformed ≡ signed.Malformed) × (signedNumber true Malformed ≡ signed.Malformed)
 unfolding withSign
 signed-fields = (refl, refl, refl, refl)
+
+-- the bytes beside the digits, `/` and `:`, are none; and one digit has its range too
+pub beside-digits : (readNumber (quoted "/") ≡ Malformed) × (readNumber (quoted ":") ≡ Malformed) × (readNumber (quoted "1/") ≡ Malformed)
+    × (readNumber (quoted "1:") ≡ Malformed) × (numberTo 5 (quoted "5") ≡ Value 5) × (numberTo 5 (quoted "6") ≡ Malformed)
+unfolding numberTo digitsTo
+beside-digits = (refl, refl, refl, refl, refl, refl)

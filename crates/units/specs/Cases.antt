@@ -2,11 +2,12 @@
 -- Assumes nothing.
 use mathlib.Core.Path.{_≡_, refl}
 use mathlib.Core.Bool.{Bool, true, _&&_}
-use mathlib.Core.List.{List, [], _∷_}
+use mathlib.Core.List.{List, [], _∷_, map}
 use Prim.Native.Nat.{ℕ}
 use lib.Dec.{eqb}
 use lib.IntN.{ℤ, pos, negsuc}
 use lib.Signed.{leZ}
+use Rattle.units.specs.Levels.{level, pageLevel}
 use Rattle.units.specs.Signed.{signedOf, wordOf}
 
 pub record Case : Type 0 where
@@ -29,3 +30,7 @@ passes (c ∷ cs) =
 cases-pass : passes cases ≡ true
 unfolding signedOf wordOf
 cases-pass = refl
+
+-- A level is the number it is made of.
+levels : map (λ z. level z .0) (pos 5 ∷ negsuc 4 ∷ []) ∷ map (λ z. pageLevel z .0) (pos 5 ∷ negsuc 4 ∷ []) ∷ [] ≡ (pos 5 ∷ negsuc 4 ∷ []) ∷ (pos 5 ∷ negsuc 4 ∷ []) ∷ []
+levels = refl

@@ -151,3 +151,16 @@ n-is-too-few n h t =
       and-left (lastAll n (wantsCell 1) (waiting n)) (eqb (among n (has 1) (bleds n 1 1 (waiting n))) 0) e,
       eqb-true (among n (has 1) (bleds n 1 1 (waiting n))) 0 (and-right (lastAll n (wantsCell 1) (waiting n)) (eqb (among n (has 1) (bleds n 1 1 (waiting n))) 0) e),
     )
+
+-- A pack of three cells has no cell 4: neither the walk nor its word takes one, and there is no cell 0.
+past-the-last : (bled 3 2 4 ((1 ∷ 4 ∷ 5 ∷ []) ∷ (4 ∷ 3 ∷ []) ∷ []) ≡ (1 ∷ []) ∷ (3 ∷ []) ∷ []) × (chosenWord 3 1 8 0 1 ∷ chosenWord 3 1 12 0 2 ∷ [] ≡ 0 ∷ 4 ∷ [])
+    × (withCellIf true 4 0 ∷ withCellIf true 4 1 ∷ withCellIf false 4 1 ∷ [] ≡ 4 ∷ 5 ∷ 4 ∷ [])
+unfolding chosenWord isCell holdsCell hasBit withCellIf withBitIf withBit
+past-the-last = (refl, refl, refl)
+
+-- Once more one cell of the code's walk: K is no cell; the resting cells block nobody's neighbour; cell 1 can rest; two cells taken side by side,
+-- and three.
+one-taken-more : (takeOne 1 4 0 0 3 ∷ takeOne 2 7 4 1 2 ∷ takeOne 1 7 1 0 1 ∷ [] ≡ 4 ∷ 1 ∷ 0 ∷ [])
+    × (map (besideTaken 3) (1 ∷ 2 ∷ 3 ∷ 4 ∷ []) ∷ map (besideTaken 7) (1 ∷ 4 ∷ 5 ∷ []) ∷ [] ≡ (true ∷ true ∷ true ∷ false ∷ []) ∷ (true ∷ true ∷ false ∷ []) ∷ [])
+unfolding takeOne mayTake besideTaken holdsCell hasBit withCellIf withBitIf withBit ones onesIn
+one-taken-more = (refl, refl)
