@@ -1,5 +1,5 @@
--- "Word 0 reads 0xA417" gives 2, "word 0 is otherwise not 0x17A4" gives 3: words below, above and beside the mark, and the mark itself, whose
--- page goes on to row 4. And pages to which several rows apply: the lowest number is given, with the lowest word at fault of its row.
+-- "Word 0 reads 0xA417" or 0xA517 gives 2, otherwise not the mark 3: words below, above and beside the mark, and the mark itself, whose page
+-- goes on to row 4. And pages to which several rows apply: the lowest number is given, with the lowest word at fault of its row.
 -- Assumes nothing.
 use mathlib.Core.Path.{_≡_, refl}
 use mathlib.Core.List.{List, [], _∷_, map}
@@ -15,7 +15,7 @@ use Rattle.page_faults.specs.Kinds.{kindOf}
 use Rattle.page_faults.specs.Met.{levelMet, orderMet, onRow, kindMeets, meets}
 use Rattle.refusals.specs.Answers.{answerOf}
 use Rattle.refusals.specs.Refusals.{answer}
-use Rattle.page_judge.specs.Page.{swappedWord, refusals, judged}
+use Rattle.page_judge.specs.Page.{refusals, judged}
 use Rattle.page_judge.specs.Worked.{pageWith, put}
 
 -- A page that starts with these two bytes, 0 behind them.
@@ -28,14 +28,10 @@ numbers pages = map (λ b. answerOf (judged b) .number) pages
 pub marks
     : numbers
     (starts 0x17 0xA4 ∷ starts 0xA3 0x17 ∷ starts 0xA5 0x17 ∷ starts 0xA4 0x16 ∷ starts 0xA4 0x18 ∷ starts 0 0 ∷ starts 0xFF 0xFF
-    ∷ starts 0x16 0xA4 ∷ starts 0x18 0xA4 ∷ starts 0xA4 0x17 ∷ [])
-    ≡ 2 ∷ 3 ∷ 3 ∷ 3 ∷ 3 ∷ 3 ∷ 3 ∷ 3 ∷ 3 ∷ 4 ∷ []
+    ∷ starts 0x16 0xA4 ∷ starts 0x18 0xA4 ∷ starts 0xA4 0x17 ∷ starts 0x17 0xA5 ∷ starts 0x17 0xA6 ∷ [])
+    ≡ 2 ∷ 3 ∷ 3 ∷ 3 ∷ 3 ∷ 3 ∷ 3 ∷ 3 ∷ 3 ∷ 4 ∷ 2 ∷ 3 ∷ []
 unfolding judged refusals wordAt checkByte remainder withByte timesXs timesX
 marks = refl
-
--- The bytes of a word exchanged.
-pub swapped-words : map swappedWord (0x17A4 ∷ 0xFF00 ∷ 0x00FF ∷ 0x1234 ∷ []) ≡ 0xA417 ∷ 0x00FF ∷ 0xFF00 ∷ 0x3412 ∷ []
-swapped-words = refl
 
 -- 127 bytes that begin 17 A4 give 1. Word 15 not 0 and n 11 give 5; n 11 and N of protection 0 of 0 give 6; N of protection 7 of 0 and the
 -- levels of protection 0 in the wrong order give 7, words 53 before 16; those levels alone give 8.
