@@ -36,3 +36,14 @@ generated() { # WHAT PROGRAM FOLDER SEED CASES
     left=$(cases_in "$3" | head -n 5 | tr '\n' ' ')
     if [ -n "$left" ]; then bad "$1 from seed $4: unlike at case $left"; else ok "$1 from seed $4"; fi
 }
+
+# A log of samples with commands and refused lines put among them, so that 9, 10, 11, 16 and 17 all occur.
+with_refused() {
+    awk 'NR % 8 == 0 { print "F\t" NR / 8 % 4 }
+        NR % 40 == 3 { print "S\t0\t2980\t2980\t4000" }
+        NR % 40 == 11 { sub(/[0-9]*$/, "6001") }
+        NR % 40 == 19 { sub(/^S\t-?[0-9]*\t[0-9]*/, "S\t0\t1999") }
+        NR % 40 == 27 { print "F\t4" }
+        NR % 40 == 35 { print "S\t1\t2980\t2980\t04000"; print "" }
+        { print }'
+}
