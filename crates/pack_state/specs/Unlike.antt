@@ -53,6 +53,8 @@ page =
           ∷ limited (pos 3180) (pos 3130) 2 3 1
           ∷ limited (pos 3330) (pos 3280) 2 3 2
           ∷ limited (pos 3330) (pos 3280) 2 3 3
+          ∷ limited (pos 2731) (pos 2782) 2 3 1
+          ∷ limited (pos 2631) (pos 2682) 2 3 2
           ∷ [];
     }
 
