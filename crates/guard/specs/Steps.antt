@@ -3,12 +3,12 @@
 use mathlib.Core.Path.{_≡_, refl, ap, _∙_}
 use mathlib.Core.Bool.{Bool, true, false, not}
 use mathlib.Core.List.{List, [], _∷_}
-use Prim.Native.Nat.{ℕ, _+_, _≤_, _<_}
+use Prim.Native.Nat.{ℕ, _+_, _-_, _≤_, _<_}
 use native.Mathlib.Omega.{arith}
 use lib.IntN.{ℤ}
 use lib.ListN.{length, getD, set}
 use Rattle.laws.specs.Latest.{lastAll}
-use Rattle.laws.specs.Each.{eachTo, each-next}
+use Rattle.laws.specs.Each.{eachTo, each-next, eachFrom, each-join}
 use Rattle.protections.specs.declared.Direction.{Direction}
 use Rattle.protections.specs.declared.Limits.{Limits}
 use Rattle.protections.specs.declared.Row.{Row}
@@ -109,11 +109,21 @@ pub clear-next : (ls : List Limits) (l out : List Protection) (i : ℕ) (r : Pro
 unfolding clearAt
 clear-next ls l out i r q e = each-next noProtection (clearAt ls) i l out r q e
 
--- Once all are stepped.
-pub step-all-is : (e : Extremes) (s : Sample) (ps out : List Protection) (i : ℕ) → i ≡ protections
-    → out ≡ eachTo noProtection (stepAt e s) i ps → out ≡ stepAll e s ps
-unfolding stepAll
-step-all-is e s ps out i n q = rw (← n) q
+-- Protections `from` up to `to`, one sample on, the others as they were.
+abbrev pub stepSome : Extremes → Sample → ℕ → ℕ → List Protection → List Protection
+stepSome e s from to = eachFrom noProtection (stepAt e s) from (to - from)
+
+-- Some and then the others are all.
+pub step-parts : (e : Extremes) (s : Sample) (k : ℕ) → k ≤ protections → (ps : List Protection)
+    → stepSome e s k protections (stepSome e s 0 k ps) ≡ stepAll e s ps
+unfolding stepAll eachTo
+step-parts e s k h ps =
+    let none : 0 + (k - 0) ≡ k = omega arith in
+    let rest : k + (protections - k) ≡ protections = omega arith in
+    let first : stepSome e s 0 k ps ≡ eachTo noProtection (stepAt e s) k ps =
+    each-join noProtection (stepAt e s) 0 (k - 0) ps ∙ ap (λ (i : ℕ). eachTo noProtection (stepAt e s) i ps) none in
+    rw first
+    (each-join noProtection (stepAt e s) k (protections - k) ps ∙ ap (λ (i : ℕ). eachTo noProtection (stepAt e s) i ps) rest)
 
 -- ---- one protection of good limits
 

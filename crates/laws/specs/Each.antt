@@ -2,7 +2,7 @@
 -- Assumes nothing.
 use mathlib.Core.Path.{_≡_, refl, ap}
 use mathlib.Core.List.{List}
-use Prim.Native.Nat.{ℕ, zero, suc, _+_, _≤_, _<_}
+use Prim.Native.Nat.{ℕ, zero, suc, _+_, _-_, _≤_, _<_}
 use native.Mathlib.Omega.{arith}
 use native.Mathlib.Numerals.{add-one}
 use native.Mathlib.Nat.{eq-or-lt-of-le, le-of-suc-le-suc, not-suc-le-zero}
@@ -40,3 +40,22 @@ module _ {A : Type 0} (z : A) (f : ℕ → A → A) where
       (λ (e : k ≡ n). let lt : n < length (eachTo n l) = rw (each-length n l) (omega arith) in rw (e, getD-set-same) (ap (f n) (each-above n l n (omega arith))))
       (λ (lt : k < n). let ne : k ≡ n → ⊥ = λ e. omega arith in rw getD-set-other (each-below n l k (omega arith) lt))
       (eq-or-lt-of-le (le-of-suc-le-suc q))
+
+  -- The k entries from n on are stepped, the others are as they were.
+  unfoldable pub eachFrom : ℕ → ℕ → List A → List A
+  eachFrom n zero l = l
+  eachFrom n (suc k) l = set (eachFrom n k l) (n + k) (f (n + k) (getD (eachFrom n k l) (n + k) z))
+
+  -- One turn of the loop that steps entry i, of those from n on.
+  pub each-from-next : (n i : ℕ) → n ≤ i → (l q : List A) (r : A) → q ≡ eachFrom n (i - n) l → r ≡ f i (getD q i z) → set q i r ≡ eachFrom n (i + 1 - n) l
+  unfolding eachFrom
+  each-from-next n i h l q r e er =
+      let at : n + (i - n) ≡ i = omega arith in
+      let one : i + 1 - n ≡ suc (i - n) = omega arith in
+      rw (one, at, er, e)
+
+  -- The first n and then k more are the first n + k.
+  pub each-join : (n k : ℕ) (l : List A) → eachFrom n k (eachTo n l) ≡ eachTo (n + k) l
+  unfolding eachFrom eachTo
+  each-join n zero l = let none : n + 0 ≡ n = omega arith in rw none
+  each-join n (suc k) l = let more : n + suc k ≡ suc (n + k) = omega arith in rw (more, each-join n k l)
