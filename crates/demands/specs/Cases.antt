@@ -3,7 +3,7 @@
 -- Assumes nothing.
 use mathlib.Core.Path.{_≡_, refl, ap}
 use mathlib.Core.Bool.{cond}
-use mathlib.Core.List.{List, [], _∷_, _++_}
+use mathlib.Core.List.{List, [], _∷_, _++_, map}
 use Prim.Native.Nat.{ℕ, _+_, _-_, _*_}
 use lib.IntN.{ℤ, pos}
 use lib.ListN.{take, replicate}
@@ -24,7 +24,7 @@ use Rattle.pack.specs.Events.{Event, offer, command, accepts}
 use Rattle.pack_state.specs.State.{freshPack}
 use Rattle.pack.specs.Answers.{offered, commanded}
 use Rattle.pack.specs.Kept.{pageOf}
-use Rattle.pack_shown.specs.Shown.{decisionOf}
+use Rattle.pack_shown.specs.Shown.{decision, decisionOf}
 use Rattle.text_fields.specs.Quoted.{quoted}
 use Rattle.text_fields.specs.Decimal.{decimal}
 use Rattle.text_fields.specs.Fields.{fieldsOf, lineOf}
@@ -38,7 +38,7 @@ use Rattle.pack_shown.specs.Shown.{decisionAfter, modeAfter}
 use Rattle.log_entries.specs.Entry.{readCommand, cellsFrom, secondOf, firstOf, readSample, fieldsSay, readEntry}
 use Rattle.log_texts.specs.Texts.{decisionText, refusedText}
 use Rattle.demands.specs.History.{story}
-use Rattle.demands.specs.Shown.{shownWords}
+use Rattle.demands.specs.Shown.{shown, shownWords}
 use Rattle.demands.specs.Written.{sampled, charged, computed}
 
 -- ---- answers, written short
@@ -371,3 +371,30 @@ reportingPage =
 pub reporting-is : loadedOf reportingPage ≡ record { verdict = Accepted; settings = reporting }
 unfolding computed
 reporting-is = refl
+
+-- A command between two samples, and behind one, takes nothing back: what is shown after each.
+pub between-samples
+    : shown workedPage (charged (4000 ∷ 4020 ∷ []) ∷ command 3 ∷ charged (4000 ∷ 4020 ∷ []) ∷ [])
+    ∷ shown workedPage (command 3 ∷ charged (4000 ∷ 4020 ∷ []) ∷ [])
+    ∷ shown workedPage (command 4 ∷ command 3 ∷ charged (4000 ∷ 4020 ∷ []) ∷ [])
+    ∷ []
+    ≡ decision 2 0 3 2 3 ∷ decision 1 0 3 2 3 ∷ decision 1 0 3 2 3 ∷ []
+unfolding computed
+between-samples = refl
+
+-- Who is bled: a cell below the floor of 3900 mV is not, though it exceeds the other by 50; nor one that exceeds it by 5 or by 10, and by 11 it is.
+pub floor-and-difference
+    : map (λ cells. shown workedPage (charged cells ∷ []) .balance)
+    ((3850 ∷ 3800 ∷ []) ∷ (3899 ∷ 3800 ∷ []) ∷ (3900 ∷ 3800 ∷ []) ∷ (4005 ∷ 4000 ∷ []) ∷ (4010 ∷ 4000 ∷ []) ∷ (4011 ∷ 4000 ∷ []) ∷ [])
+    ≡ 0 ∷ 0 ∷ 1 ∷ 0 ∷ 0 ∷ 1 ∷ []
+unfolding computed
+floor-and-difference = refl
+
+-- A command behind a sample, as document 01 says it of the page and the history alone: its line shows the switch that it turns on;
+-- then a cell below the floor, one that exceeds the other by too little, and one by enough.
+pub command-said : story workedPage [] (quoted "S\t500\t2980\t2980\t4000\t4020" ∷ quoted "F\t1" ∷ quoted "F\t4"
+    ∷ quoted "S\t500\t2980\t2980\t3850\t3800" ∷ quoted "S\t500\t2980\t2980\t4005\t4000" ∷ quoted "S\t500\t2980\t2980\t4011\t4000" ∷ [])
+    ≡ quoted "1\t0\t0\t2\t3\n1\t0\t1\t2\t3\nrefused\t16\n2\t0\t1\t0\t3\n3\t0\t1\t0\t3\n4\t0\t1\t1\t3\n"
+unfolding computed decisionAfter modeAfter raisedWordAfter blocksAfter bledAfter bledWordAfter story decisionText refusedText decimal fieldsOf lineOf lacks
+    digitsTo numberTo text.readSigned readEntry readCommand cellsFrom secondOf firstOf readSample fieldsSay
+command-said = refl
