@@ -1,6 +1,7 @@
 // A chunk of log answered line by line, and what has to wait for the next read.
 ghost use Rattle.pack.specs.Kept.{Kept};
-ghost use Rattle.log.specs.Replay.{AnswerChunk, Feed};
+ghost use Rattle.log.specs.Replay.{AnswerChunk, Feed, NextIs};
+use log_entries::Entry;
 use log_lines::NextLine;
 use log_texts::ROOM;
 use pack_state::Pack;
@@ -22,6 +23,43 @@ pub struct Fed {
     pub pack: Pack,
 }
 
+// The next line of a buffer as a value: whether no newline is left; if one is, where the line behind it starts, and what it says.
+pub struct NextEntry {
+    pub unfinished: bool,
+    pub next: usize,
+    pub entry: Entry,
+}
+
+// The next line of the bytes from `from` on. Most are samples, and those are read along; the newline of any other is looked for first.
+fn next_entry(bytes: &[u8], from: usize) -> NextEntry
+    ensures { λ r. ⌜ NextIs (now (bytes .entry)) from r ⌝ }
+{
+    let a = log_entries::read_ahead(bytes, from);
+    let ahead = a.entry;
+    if a.found {
+        return NextEntry {
+            unfinished: false,
+            next: a.end + 1,
+            entry: ahead,
+        };
+    }
+    let n = log_lines::next_line(bytes, from);
+    let NextLine::Ends { end, next } = n else {
+        return NextEntry {
+            unfinished: true,
+            next: from,
+            entry: ahead,
+        };
+    };
+    let line = &bytes[from..end];
+    let e = log_entries::read_entry(line);
+    NextEntry {
+        unfinished: false,
+        next: next,
+        entry: e,
+    }
+}
+
 // Answers the lines that end in `bytes`, one behind the other, as long as the longest answer has room.
 pub fn answer_chunk(p: Pack, bytes: &[u8], out: &mut [u8]) -> Chunk
     requires { ⌜ Kept p ⌝ }
@@ -32,15 +70,15 @@ pub fn answer_chunk(p: Pack, bytes: &[u8], out: &mut [u8]) -> Chunk
     let mut at: usize = 0;
     let mut w: usize = 0;
     loop {
-        let n = log_lines::next_line(bytes, at);
-        let NextLine::Ends { end, next } = n else {
+        let n = next_entry(bytes, at);
+        if n.unfinished {
             return Chunk {
                 done: true,
                 used: at,
                 written: w,
                 pack: k,
             };
-        };
+        }
         if out.len() < w + ROOM {
             return Chunk {
                 done: false,
@@ -49,12 +87,12 @@ pub fn answer_chunk(p: Pack, bytes: &[u8], out: &mut [u8]) -> Chunk
                 pack: k,
             };
         }
-        let line = &bytes[at..end];
-        let t = log_answers::tell(k, line);
+        let entry = n.entry;
+        let t = log_answers::tell_entry(k, entry);
         let told = t.told;
         w = log_texts::put_told(out, w, told);
         k = t.pack;
-        at = next;
+        at = n.next;
     }
 }
 

@@ -1,7 +1,7 @@
 -- What a line of the log is answered with, and the pack behind it: document 01, "The replay program" and "Refusal numbers".
 -- Assumes nothing.
 use Prim.Native.Nat.{ℕ, _<_}
-use mathlib.Core.Path.{_≡_, refl, ap}
+use mathlib.Core.Path.{_≡_, refl, ap, _∙_}
 use mathlib.Core.List.{List}
 use lib.ListN.{length}
 use Rattle.refusals.specs.declared.Verdict.{Verdict}
@@ -37,9 +37,13 @@ answeredAs Offer p e = offered p (e .sample)
 answeredAs Command p e = commanded p (e .command)
 answeredAs Malformed p e = answered (verdict.Refused 17 0) p
 
+-- What a line that was read does to a pack.
+abbrev pub tellEntry : Pack → Entry → Outcome
+tellEntry p e = outcomeOf (e .kind) (answeredAs (e .kind) p e)
+
 -- What a line does to a pack.
 unfoldable pub tell : Pack → List ℕ → Outcome
-tell p line = outcomeOf (readEntry line .kind) (answeredAs (readEntry line .kind) p (readEntry line))
+tell p line = tellEntry p (readEntry line)
 
 -- The kind of a line is told by its bytes alone: a sample was accepted exactly where it is `Offer` and the answer a decision.
 pub tell-kind : (p : Pack) (line : List ℕ) → tell p line .kind ≡ readEntry line .kind
@@ -49,10 +53,15 @@ tell-kind p line = refl
 -- All lines over 128 bytes do the same.
 pub tell-overlong : (p : Pack) (line : List ℕ) → 128 < length line → tell p line ≡ outcome Malformed (Refused 17) p
 unfolding tell outcomeOf
-tell-overlong p line h = ap (λ (e : Entry). outcomeOf (e .kind) (answeredAs (e .kind) p e)) (overlong line h)
+tell-overlong p line h = ap (tellEntry p) (overlong line h)
 
--- The line was read as e, and the pack's answer a was told as r.
-pub tell-made : (p : Pack) (line : List ℕ) (e : Entry) (a : Answered) (r : Outcome) → e ≡ readEntry line → a ≡ answeredAs (e .kind) p e
-    → r ≡ outcomeOf (e .kind) a → Kept (a .pack) → (r ≡ tell p line) × Kept (r .pack)
-unfolding tell outcomeOf
-tell-made p line e a r ee ea er kept = (rw (← ee, ← ea) er, rw er kept)
+-- The pack's answer a to the line e was told as r.
+pub entry-made : (p : Pack) (e : Entry) (a : Answered) (r : Outcome) → a ≡ answeredAs (e .kind) p e → r ≡ outcomeOf (e .kind) a → Kept (a .pack)
+    → (r ≡ tellEntry p e) × Kept (r .pack)
+unfolding outcomeOf
+entry-made p e a r ea er kept = (rw (← ea) er, rw er kept)
+
+-- The line was read as e, and that was told as r.
+pub tell-read : (p : Pack) (line : List ℕ) (e : Entry) (r : Outcome) → e ≡ readEntry line → r ≡ tellEntry p e → r ≡ tell p line
+unfolding tell
+tell-read p line e r ee er = er ∙ ap (tellEntry p) ee

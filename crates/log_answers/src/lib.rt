@@ -1,7 +1,7 @@
 // What a line of the log does to a pack, as a value: its answer, before it is text, and the pack behind it.
 ghost use mathlib.Core.Path.{_≡_};
 ghost use Rattle.pack.specs.Kept.{Kept};
-ghost use Rattle.log_answers.specs.Tell.{answeredAs, outcomeOf, tell};
+ghost use Rattle.log_answers.specs.Tell.{answeredAs, outcomeOf, tell, tellEntry};
 use log_entries::Entry;
 use log_entries::Kind;
 use pack::Answered;
@@ -68,6 +68,17 @@ fn answered_by(p: Pack, e: Entry) -> Answered
     }
 }
 
+// What a line that was read does to a pack.
+pub fn tell_entry(p: Pack, e: Entry) -> Outcome
+    requires { ⌜ Kept p ⌝ }
+    ensures { λ r. ⌜ r ≡ tellEntry p e ⌝ }
+    ensures { λ r. ⌜ Kept (r .pack) ⌝ }
+{
+    let a = answered_by(p, e);
+    let kind = e.kind;
+    outcome_of(kind, a)
+}
+
 // What a line does to a pack.
 pub fn tell(p: Pack, line: &[u8]) -> Outcome
     requires { ⌜ Kept p ⌝ }
@@ -75,7 +86,5 @@ pub fn tell(p: Pack, line: &[u8]) -> Outcome
     ensures { λ r. ⌜ Kept (r .pack) ⌝ }
 {
     let e = log_entries::read_entry(line);
-    let a = answered_by(p, e);
-    let kind = e.kind;
-    outcome_of(kind, a)
+    tell_entry(p, e)
 }

@@ -18,6 +18,8 @@ use Rattle.log_entries.specs.Entry.{malformed, command, offer, readComma
 use Rattle.log_entries.specs.Left.{left}
 use Rattle.log_entries.specs.InTurn.{cellsOf, readNumbers}
 use Rattle.text_numbers.specs.Signs.{withSign}
+use Rattle.text_fields.specs.Finding.{before}
+use Rattle.log_entries.specs.Ahead.{nothing, found, restOf, endFrom, foundAs, readAhead}
 
 abbrev mv : ℕ → MilliVolts
 mv v = record { 0 = v }
@@ -123,3 +125,23 @@ pub letters-wrong : (readEntry (quoted "\t3") ≡ malformed) × (readEntry (quot
     × (readEntry (quoted "T\t1\t2\t3") ≡ malformed)
 unfolding readEntry fieldsSay readSample firstOf secondOf cellsFrom readCommand lacks fieldsOf numberTo digitsTo readSigned
 letters-wrong = (refl, refl, refl, refl, refl, refl, refl)
+
+-- read along from the second line on: its newline stands at 23, and it says what it says alone; from the first line, an `F` line, and from the
+-- third, which does not end, nothing is found
+abbrev three : List ℕ
+three = quoted "F\t3\nS\t-7\t2981\t2992\t3001\nS\t1\t2\t3"
+
+pub read-along : (readAhead three 4 ≡ found 23 (offer (negsuc 6) 2981 2992 1 (mv 3001 ∷ zeros 9)))
+    × (readAhead three 0 ≡ nothing) × (readAhead three 24 ≡ nothing) × (readAhead three 34 ≡ nothing)
+unfolding readAhead before readEntry fieldsSay readSample firstOf secondOf cellsFrom readCommand lacks fieldsOf numberTo digitsTo readSigned
+read-along = (refl, refl, refl, refl)
+
+pub rests : (restOf three 7 ≡ quoted "7\t2981\t2992\t3001") × (endFrom three 7 ≡ 23) × (endFrom three 24 ≡ 31)
+unfolding before
+rests = (refl, refl, refl)
+
+-- every field of what is found
+pub found-fields : (foundAs 9 (offer (pos 1) 2 3 0 (zeros 10)) ≡ record { found = true; end = 9; entry = offer (pos 1) 2 3 0 (zeros 10) })
+    × (foundAs 9 (command 3) ≡ record { found = false; end = 0; entry = malformed })
+    × (foundAs 9 malformed ≡ record { found = false; end = 0; entry = malformed })
+found-fields = (refl, refl, refl)

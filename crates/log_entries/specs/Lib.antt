@@ -8,3 +8,5 @@ pub mod Left
 pub mod InTurn
 -- Laws: which rows are implied by the others, and the steps of the reader.
 pub mod Reading
+-- An `S` line read along, before its newline was looked for.
+pub mod Ahead

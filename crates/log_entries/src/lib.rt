@@ -1,13 +1,17 @@
 // Entries: what a line of the log says, as a value. Each field is read as a part of the line.
 ghost use mathlib.Core.Path.{_≡_};
+ghost use mathlib.Core.List.{[]};
 ghost use Prim.Native.Nat.{_+_, _≤_};
 ghost use lib.ListN.{length, getD};
+ghost use Rattle.text_fields.specs.Fields.{fieldsOf};
 ghost use Rattle.log_entries.specs.Entry.{malformed, offer, readCommand, readSample, readEntry};
 ghost use Rattle.log_entries.specs.Left.{left};
-ghost use Rattle.log_entries.specs.InTurn.{cellsOf, readNumbers};
+ghost use Rattle.log_entries.specs.InTurn.{cellsOf, readNumbers, behind};
+ghost use Rattle.log_entries.specs.Ahead.{restOf, endFrom, nothing, foundAs, foundIn, readAhead};
 use sample::Sample;
 use sample::no_sample;
 use text_number_at::FieldNumber;
+use text_number_at::number_along;
 use text_number_at::number_at;
 use text_numbers::Number;
 use text_numbers::Signed;
@@ -148,4 +152,88 @@ pub fn read_entry(line: &[u8]) -> Entry
         return read_command(line, 2);
     }
     no_entry()
+}
+
+// A line read along, before its newline was looked for: whether one was found, the place of its newline, and what it says. Where none was
+// found, they are 0 and a malformed line.
+pub struct Ahead {
+    pub found: bool,
+    pub end: usize,
+    pub entry: Entry,
+}
+
+fn nothing_found() -> Ahead
+    ensures { λ r. ⌜ r ≡ nothing ⌝ }
+{
+    let e = no_entry();
+    Ahead {
+        found: false,
+        end: 0,
+        entry: e,
+    }
+}
+
+// The line up to `end` has these numbers, and no more.
+fn all_read(below: bool, numbers: [u16; 13], count: usize, end: usize) -> Ahead
+    requires { ⌜ count ≤ 13 ⌝ }
+    ensures { λ r. ⌜ r ≡ foundAs end (behind below count numbers []) ⌝ }
+{
+    if count < 3 {
+        return nothing_found();
+    }
+    let c = with_sign(below, numbers[0]);
+    let Signed::Value(current) = c else {
+        return nothing_found();
+    };
+    let e = offered(current, numbers, (count - 3) as u8);
+    Ahead {
+        found: true,
+        end: end,
+        entry: e,
+    }
+}
+
+// The numbers of an `S` line from `from` on, up to its newline.
+fn numbers_ahead(bytes: &[u8], from: usize, below: bool) -> Ahead
+    ensures { λ r. ⌜ r ≡ foundIn (now (bytes .entry)) (endFrom (now (bytes .entry)) from) (readNumbers below (fieldsOf (restOf (now (bytes .entry)) from))) ⌝ }
+{
+    let mut numbers: [u16; 13] = [0; 13];
+    let mut count: usize = 0;
+    let mut at = from;
+    loop {
+        if 13 <= count {
+            return nothing_found();
+        }
+        let n = number_along(bytes, at);
+        let FieldNumber::Value { number, end } = n else {
+            return nothing_found();
+        };
+        numbers[count] = number;
+        count += 1;
+        if bytes[end] == b'\n' {
+            return all_read(below, numbers, count, end);
+        }
+        at = end + 1;
+    }
+}
+
+// An `S` line that starts at `from`, read along up to its newline; nothing where the line does not end, or is no such line.
+pub fn read_ahead(bytes: &[u8], from: usize) -> Ahead
+    ensures { λ r. ⌜ r ≡ readAhead (now (bytes .entry)) from ⌝ }
+{
+    let n = bytes.len();
+    if n < from {
+        return nothing_found();
+    }
+    if n - from < 2 {
+        return nothing_found();
+    }
+    if bytes[from] != b'S' {
+        return nothing_found();
+    }
+    if bytes[from + 1] != b'\t' {
+        return nothing_found();
+    }
+    let start = past_minus(bytes, from + 2);
+    numbers_ahead(bytes, start, from + 2 < start)
 }

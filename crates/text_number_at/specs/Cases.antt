@@ -7,6 +7,7 @@ use Rattle.text_fields.specs.Finding.{before}
 use Rattle.text_numbers.specs.Numbers.{numberTo, digitsTo}
 use Rattle.text_number_at.specs.Four.{together, allDigits, valued}
 use Rattle.text_number_at.specs.NumberAt.{numberAt, fourAt, fourLeft}
+use Rattle.text_number_at.specs.Along.{numberAlong, endsField, fourEnded}
 use Rattle.text_number_at.specs.declared.FieldNumber.the-variants.{Value, Malformed}
 
 -- the numbers of "S<tab>12<tab>3456<tab>65535", and where they end
@@ -42,3 +43,18 @@ pass = (refl, refl, refl, refl, refl, refl, refl, refl)
 pub spell : (valued (together 1 2 3 4) ≡ 1234) × (valued (together 9 9 9 9) ≡ 9999)
 unfolding valued
 spell = (refl, refl)
+
+-- along some bytes: a number that a tab ends, one that a newline ends, and one that nothing ends; a leading zero, an empty field, and a
+-- place past the end
+pub along : (numberAlong (quoted "12\t3456\n7\t8") 0 ≡ Value 12 2) × (numberAlong (quoted "12\t3456\n7\t8") 3 ≡ Value 3456 7)
+    × (numberAlong (quoted "12\t3456\n7\t8") 8 ≡ Value 7 9) × (numberAlong (quoted "12\t3456\n7\t8") 10 ≡ Malformed)
+    × (numberAlong (quoted "0123\n") 0 ≡ Malformed) × (numberAlong (quoted "\n1\n") 0 ≡ Malformed) × (numberAlong (quoted "1\n") 9 ≡ Malformed)
+unfolding before numberTo digitsTo
+along = (refl, refl, refl, refl, refl, refl, refl)
+
+pub ended-fours : (fourEnded (quoted "1234\n") 0 ≡ true) × (fourEnded (quoted "1234\t5") 0 ≡ true) × (fourEnded (quoted "12345") 0 ≡ false)
+    × (fourEnded (quoted "1234") 0 ≡ false) × (fourEnded (quoted "S\t1234\n") 2 ≡ true)
+ended-fours = (refl, refl, refl, refl, refl)
+
+pub ends : (endsField 9 ≡ true) × (endsField 10 ≡ true) × (endsField 13 ≡ false) × (endsField 32 ≡ false)
+ends = (refl, refl, refl, refl)

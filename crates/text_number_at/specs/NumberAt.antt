@@ -42,12 +42,12 @@ endIn : FieldNumber → ℕ
 endIn (field.Value v e) = e
 endIn field.Malformed = 0
 
-value-is : (n : Number) (x v e : ℕ) → withEnd n x ≡ field.Value v e → (n ≡ Value v) × (e ≡ x)
+pub value-is : (n : Number) (x v e : ℕ) → withEnd n x ≡ field.Value v e → (n ≡ Value v) × (e ≡ x)
 unfolding isNumber numberIn endIn
 value-is (Value w) x v e q = (ap Value (ap numberIn q), sym (ap endIn q))
 value-is Malformed x v e q = clash refl (sym (ap isNumber q))
 
-none-is : (n : Number) (x : ℕ) → withEnd n x ≡ field.Malformed → n ≡ Malformed
+pub none-is : (n : Number) (x : ℕ) → withEnd n x ≡ field.Malformed → n ≡ Malformed
 unfolding isNumber
 none-is (Value w) x q = clash refl (ap isNumber q)
 none-is Malformed x q = refl
@@ -100,25 +100,24 @@ number-lacks f v e = rw (number-text 65535 f v e .0) (decimal-lacks 9 (lit≤ tt
 drop-next : (x : List ℕ) (e f : ℕ) → f ≡ e + 1 → e < length x → drop e x ≡ getD x e 0 ∷ drop f x
 drop-next x e f q h = let k : suc e ≡ f = omega arith in drop-cons x e 0 h ∙ ap (λ (j : ℕ). getD x e 0 ∷ drop j x) k
 
+pub four-split : (line : List ℕ) (from : ℕ) → from + 4 ≤ length line → drop from line ≡ fourAt line from ++ drop (from + 4) line
+four-split line from h =
+    drop-next line from (from + 1) refl (omega arith)
+    ∙ ap (λ (l : List ℕ). getD line from 0 ∷ l)
+    (drop-next line (from + 1) (from + 2) (omega arith) (omega arith)
+    ∙ ap (λ (l : List ℕ). getD line (from + 1) 0 ∷ l)
+    (drop-next line (from + 2) (from + 3) (omega arith) (omega arith)
+    ∙ ap (λ (l : List ℕ). getD line (from + 2) 0 ∷ l)
+    (drop-next line (from + 3) (from + 4) (omega arith) (omega arith))))
+
 module _ (line : List ℕ) (from : ℕ) (t : fourLeft line from ≡ true) where
   pub four-within : from + 4 ≤ length line
   four-within = leb-true (from + 4) (length line) (and-left (leb (from + 4) (length line)) _ t)
 
-  four-left : drop from line ≡ fourAt line from ++ drop (from + 4) line
-  four-left =
-      let h = four-within in
-      drop-next line from (from + 1) refl (omega arith)
-      ∙ ap (λ (l : List ℕ). getD line from 0 ∷ l)
-      (drop-next line (from + 1) (from + 2) (omega arith) (omega arith)
-      ∙ ap (λ (l : List ℕ). getD line (from + 1) 0 ∷ l)
-      (drop-next line (from + 2) (from + 3) (omega arith) (omega arith)
-      ∙ ap (λ (l : List ℕ). getD line (from + 2) 0 ∷ l)
-      (drop-next line (from + 3) (from + 4) (omega arith) (omega arith))))
-
   -- a number of four digits up to the end or the tab is the field
   four-field : lacks 9 (fourAt line from) ≡ true → fieldAt line from ≡ fourAt line from
   four-field n =
-      ap (before 9) four-left
+      ap (before 9) (four-split line from four-within)
       ∙ by-order (from + 4) (length line)
       (λ h.
       let tab : getD line (from + 4) 0 ≡ 9 =

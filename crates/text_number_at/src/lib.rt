@@ -1,12 +1,13 @@
 // Numbers read in place: the field that starts at a place of a line. Most numbers of a log have four digits, and those are read at once.
 ghost use mathlib.Core.Path.{_≡_};
 ghost use mathlib.Core.List.{[], _∷_};
-ghost use Prim.Native.Nat.{_+_, _<_, _≤_};
+ghost use Prim.Native.Nat.{_+_, _-_, _<_, _≤_};
 ghost use lib.ListN.{length};
 ghost use Rattle.text_numbers.specs.Numbers.{readNumber};
 ghost use Rattle.text_numbers.specs.declared.Number.the-variants.{Value};
 ghost use Rattle.text_number_at.specs.Four.{together, allDigits, valued};
 ghost use Rattle.text_number_at.specs.NumberAt.{fourAt, fourLeft, numberAt};
+ghost use Rattle.text_number_at.specs.Along.{endAlong, endsField, fourEnded, numberAlong};
 use laws::wide;
 use text_fields::field;
 use text_numbers::Number;
@@ -108,4 +109,78 @@ pub fn number_at(line: &[u8], from: usize) -> FieldNumber
         }
     }
     number_slowly(line, from)
+}
+
+// Whether a byte ends a field: a tab, or the newline of its line.
+fn ends_field(b: u8) -> bool
+    ensures { λ r. ⌜ r ≡ endsField b ⌝ }
+{
+    (b == b'\t') | (b == b'\n')
+}
+
+// The places of n from which five bytes are left.
+fn with_five_left(n: usize) -> usize
+    ensures { λ r. ⌜ r ≡ n - 4 ⌝ }
+{
+    if n < 4 {
+        return 0;
+    }
+    n - 4
+}
+
+// Whether four bytes are left from `from` on, and behind them one that ends a field.
+fn four_ended(bytes: &[u8], from: usize) -> bool
+    ensures { λ r. ⌜ r ≡ fourEnded (now (bytes .entry)) from ⌝ }
+{
+    if from < with_five_left(bytes.len()) {
+        return ends_field(bytes[from + 4]);
+    }
+    false
+}
+
+// Where the field that starts at `from` ends: at the next tab or newline, or at the end of the bytes.
+fn field_end(bytes: &[u8], from: usize) -> usize
+    ensures { λ r. ⌜ r ≡ endAlong (now (bytes .entry)) from ⌝ }
+    ensures { λ r. ⌜ (from ≤ r) × (r - from ≤ length (now (bytes .entry)) - from) ⌝ }
+{
+    let mut e = from;
+    while e < bytes.len() {
+        if ends_field(bytes[e]) {
+            return e;
+        }
+        e += 1;
+    }
+    e
+}
+
+// The field that starts at `from`, found and then read: any number at all.
+fn along_slowly(bytes: &[u8], from: usize) -> FieldNumber
+    ensures { λ r. ⌜ r ≡ numberAlong (now (bytes .entry)) from ⌝ }
+{
+    let e = field_end(bytes, from);
+    if bytes.len() <= e {
+        return FieldNumber::Malformed;
+    }
+    let f = &bytes[from..e];
+    let n = read_number(f);
+    let Number::Value(v) = n else {
+        return FieldNumber::Malformed;
+    };
+    FieldNumber::Value { number: v, end: e }
+}
+
+// The same as `number_at` where no line was cut out of the bytes yet: the field ends at a tab or a newline, whatever stands behind.
+pub fn number_along(bytes: &[u8], from: usize) -> FieldNumber
+    ensures { λ r. ⌜ r ≡ numberAlong (now (bytes .entry)) from ⌝ }
+{
+    if four_ended(bytes, from) {
+        let v = four_at(bytes, from);
+        if 0 < v {
+            return FieldNumber::Value {
+                number: v,
+                end: from + 4,
+            };
+        }
+    }
+    along_slowly(bytes, from)
 }
