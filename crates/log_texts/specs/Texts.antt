@@ -1,7 +1,7 @@
 -- The lines that the replay writes: document 01, "The replay program". A text is a list of bytes.
 -- Assumes nothing.
 use Prim.Native.Nat.{ℕ}
-use mathlib.Core.List.{List, [], _∷_, _++_}
+use mathlib.Core.List.{List, [], _∷_}
 use Rattle.text_fields.specs.Quoted.{quoted}
 use Rattle.text_fields.specs.Fields.{lineOf}
 use Rattle.text_fields.specs.Decimal.{decimal}
@@ -37,7 +37,3 @@ toldText (Refused number) = refusedText number
 abbrev pub openingText : Verdict → List ℕ
 openingText verdict.Accepted = headerText
 openingText (verdict.Refused number word) = pageText number word
-
--- A number and the byte behind it, as the code puts them.
-abbrev pub fieldText : ℕ → ℕ → List ℕ
-fieldText v end = decimal v ++ (end ∷ [])

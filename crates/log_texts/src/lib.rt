@@ -2,15 +2,15 @@
 ghost use Prim.Native.Nat.{_+_, _≤_};
 ghost use lib.ListN.{length};
 ghost use Rattle.text_writing.specs.Placing.{Put};
-ghost use Rattle.log_texts.specs.Texts.{fieldText, decisionText, refusedText, pageText, toldText};
-ghost use Rattle.log_texts.specs.Writing.{frontText, backText};
+ghost use Rattle.text_writing.specs.Rows.{fieldText};
+ghost use Rattle.log_texts.specs.Texts.{decisionText, refusedText, pageText, toldText};
 ghost use Rattle.log_texts.specs.Room.{room, roomed, Opened};
 use log_answers::Told;
 use pack_shown::Decision;
 use refusals::Verdict;
 
-// The bytes of the longest answer to a line: a number of 32 bits, four of 16, and the byte behind each.
-pub const ROOM: usize = 35;
+// The bytes of the longest answer to a line, which is a row.
+pub const ROOM: usize = text_writing::ROW;
 
 // ---- a line
 
@@ -19,27 +19,8 @@ fn put_field(out: &mut [u8], at: usize, v: u32, end: u8) -> usize
     requires { ⌜ at + length (fieldText v end) ≤ length (now out) ⌝ }
     ensures { λ r. ⌜ Put (now (out .entry)) at (fieldText v end) r (now (out .exit)) ⌝ }
 {
-    let e = text_writing::put_decimal_in(out, at, v);
-    text_writing::put_byte_in(out, e, end)
-}
-
-fn put_front(out: &mut [u8], at: usize, tick: u32, raised: u16, fets: u16) -> usize
-    requires { ⌜ at + 23 ≤ length (now out) ⌝ }
-    ensures { λ r. ⌜ Put (now (out .entry)) at (frontText tick raised fets) r (now (out .exit)) ⌝ }
-    ensures { λ _. ⌜ length (frontText tick raised fets) ≤ 23 ⌝ }
-{
-    let e = put_field(out, at, tick, b'\t');
-    let f = put_field(out, e, raised as u32, b'\t');
-    put_field(out, f, fets as u32, b'\t')
-}
-
-fn put_back(out: &mut [u8], at: usize, balance: u16, mode: u16) -> usize
-    requires { ⌜ at + 12 ≤ length (now out) ⌝ }
-    ensures { λ r. ⌜ Put (now (out .entry)) at (backText balance mode) r (now (out .exit)) ⌝ }
-    ensures { λ _. ⌜ length (backText balance mode) ≤ 12 ⌝ }
-{
-    let e = put_field(out, at, balance as u32, b'\t');
-    put_field(out, e, mode as u32, b'\n')
+    let e = text_writing::put_decimal(out, at, v);
+    text_writing::put_byte(out, e, end)
 }
 
 fn put_decision(out: &mut [u8], at: usize, d: Decision) -> usize
@@ -47,8 +28,7 @@ fn put_decision(out: &mut [u8], at: usize, d: Decision) -> usize
     ensures { λ r. ⌜ Put (now (out .entry)) at (decisionText d) r (now (out .exit)) ⌝ }
     ensures { λ _. ⌜ length (decisionText d) ≤ 35 ⌝ }
 {
-    let e = put_front(out, at, d.tick, d.raised, d.fets);
-    put_back(out, e, d.balance, d.mode)
+    text_writing::put_row(out, at, d.tick, d.raised, d.fets, d.balance, d.mode)
 }
 
 fn put_refused(out: &mut [u8], at: usize, number: u8) -> usize

@@ -6,6 +6,7 @@ ghost use lib.Dec.{leb};
 ghost use lib.ListN.{length};
 ghost use Rattle.text_fields.specs.Decimal.{decimal};
 ghost use Rattle.text_writing.specs.Placing.{Put, written};
+ghost use Rattle.text_writing.specs.Rows.{rowText, room, roomed, fieldText, frontText, backText};
 
 // Whether `count` bytes have room at `at` in a buffer of `size` bytes.
 fn has_room(size: usize, at: usize, count: usize) -> bool
@@ -18,7 +19,7 @@ fn has_room(size: usize, at: usize, count: usize) -> bool
 }
 
 // Puts one byte at `at`, where it has room, and answers the place behind it.
-pub fn put_byte_in(out: &mut [u8], at: usize, b: u8) -> usize
+fn put_byte_in(out: &mut [u8], at: usize, b: u8) -> usize
     requires { ⌜ at + 1 ≤ length (now out) ⌝ }
     ensures { λ r. ⌜ Put (now (out .entry)) at (b ∷ []) r (now (out .exit)) ⌝ }
     ensures { λ r. ⌜ r ≤ at + 1 ⌝ }
@@ -116,7 +117,7 @@ fn put_digits(out: &mut [u8], at: usize, k: usize, v: u32)
 }
 
 // Puts the decimal text of `v` at `at`, where it has room, and answers the place behind it.
-pub fn put_decimal_in(out: &mut [u8], at: usize, v: u32) -> usize
+fn put_decimal_in(out: &mut [u8], at: usize, v: u32) -> usize
     requires { ⌜ at + length (decimal v) ≤ length (now out) ⌝ }
     ensures { λ r. ⌜ Put (now (out .entry)) at (decimal v) r (now (out .exit)) ⌝ }
     ensures { λ r. ⌜ r ≤ at + 10 ⌝ }
@@ -133,6 +134,60 @@ pub fn put_decimal(out: &mut [u8], at: usize, v: u32) -> usize
 {
     if has_room(out.len(), at, places(v)) {
         return put_decimal_in(out, at, v);
+    }
+    at
+}
+
+// ---- a row
+
+// The bytes of the longest row: a number of 32 bits, four of 16, and the byte behind each.
+pub const ROW: usize = 35;
+
+// A number, and the tab or the newline behind it. Both have room.
+fn put_field(out: &mut [u8], at: usize, v: u32, end: u8) -> usize
+    requires { ⌜ at + length (fieldText v end) ≤ length (now out) ⌝ }
+    ensures { λ r. ⌜ Put (now (out .entry)) at (fieldText v end) r (now (out .exit)) ⌝ }
+{
+    let e = put_decimal_in(out, at, v);
+    put_byte_in(out, e, end)
+}
+
+fn put_front(out: &mut [u8], at: usize, first: u32, second: u16, third: u16) -> usize
+    requires { ⌜ at + 23 ≤ length (now out) ⌝ }
+    ensures { λ r. ⌜ Put (now (out .entry)) at (frontText first second third) r (now (out .exit)) ⌝ }
+    ensures { λ _. ⌜ length (frontText first second third) ≤ 23 ⌝ }
+{
+    let e = put_field(out, at, first, b'\t');
+    let f = put_field(out, e, second as u32, b'\t');
+    put_field(out, f, third as u32, b'\t')
+}
+
+fn put_back(out: &mut [u8], at: usize, fourth: u16, fifth: u16) -> usize
+    requires { ⌜ at + 12 ≤ length (now out) ⌝ }
+    ensures { λ r. ⌜ Put (now (out .entry)) at (backText fourth fifth) r (now (out .exit)) ⌝ }
+    ensures { λ _. ⌜ length (backText fourth fifth) ≤ 12 ⌝ }
+{
+    let e = put_field(out, at, fourth as u32, b'\t');
+    put_field(out, e, fifth as u32, b'\n')
+}
+
+// Puts five numbers, parted by tabs and ended by a newline, at `at` and answers the place behind them; where the longest such row has no
+// room nothing is written and the answer is `at`.
+pub fn put_row(
+    out: &mut [u8],
+    at: usize,
+    first: u32,
+    second: u16,
+    third: u16,
+    fourth: u16,
+    fifth: u16,
+) -> usize
+    ensures { λ r. ⌜ Put (now (out .entry)) at (roomed (length (now (out .entry))) at (rowText first second third fourth fifth)) r (now (out .exit)) ⌝ }
+    ensures { λ _. ⌜ length (roomed (length (now (out .entry))) at (rowText first second third fourth fifth)) ≤ room ⌝ }
+{
+    if has_room(out.len(), at, ROW) {
+        let e = put_front(out, at, first, second, third);
+        return put_back(out, e, fourth, fifth);
     }
     at
 }

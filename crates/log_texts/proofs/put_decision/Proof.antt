@@ -1,23 +1,17 @@
 -- `log_texts::put_decision` meets its contract. Assumes nothing.
-use native.Mathlib.Omega.{arith}
-use Rattle.log_texts.specs.Writing.{put-room, decision-few, decision-put}
+use Rattle.log_texts.specs.Writing.{decision-put}
 use borrow.Author.Needs.{needs}
 use Rattle.log_texts.proofs.put_decision.Statement.{statement}
 use Rattle.log_texts.proofs.put_decision.Tie as tie
 
-put-front-requires : tie.Need-put-front-requires
-put-front-requires c κs = search needs
-
-put-back-requires : tie.Need-put-back-requires
-put-back-requires c κs =
-    put-room 12 (c .before .before .before .put-front .ensures .0) (omega (arith, c .before .before .before .put-front .ensures .1, c .before .before .before .before .before .before .pre))
+put-row-requires : tie.Need-put-row-requires
+put-row-requires c κs = search needs
 
 same-length : tie.Need-same-length
 same-length c = search needs
 
 returns : tie.Need-returns
-returns c =
-    let d = c .before .before .before .before .before .before .before .before .before .args .d in (decision-put d (c .before .before .before .before .before .before .put-front .ensures .1) (c .before .before .put-back .ensures .1) (c .before .before .before .before .before .before .before .before .before .pre) (c .before .before .before .before .before .before .put-front .ensures .0) (c .before .before .put-back .ensures .0), decision-few d (c .before .before .before .before .before .before .put-front .ensures .1) (c .before .before .put-back .ensures .1))
+returns c = let b = c .before .before .before .before .before in decision-put (b .args .d) (b .pre) (c .before .before .put-row .ensures)
 
 pub put-decision-spec : {M : Type 1} → statement M
-put-decision-spec = tie.close (tie.spec put-front-requires put-back-requires same-length returns)
+put-decision-spec = tie.close (tie.spec put-row-requires same-length returns)

@@ -1,27 +1,21 @@
 -- `log_texts::put_field` meets its contract. Assumes nothing.
-use mathlib.Core.List.{[], _∷_}
-use native.Mathlib.Omega.{arith}
-use lib.ListN.{length-append}
-use Rattle.text_fields.specs.Decimal.{decimal}
-use Rattle.log_texts.specs.Writing.{put-room, put-field}
+use Rattle.text_writing.specs.Rows.{put-field}
 use borrow.Author.Needs.{needs}
 use Rattle.log_texts.proofs.put_field.Statement.{statement}
 use Rattle.log_texts.proofs.put_field.Tie as tie
 
-put-decimal-in-requires : tie.Need-put-decimal-in-requires
-put-decimal-in-requires c κs = let a = c .before .before .args in
-    omega (arith, length-append (decimal (a .v)) (a .end ∷ []))
+put-decimal-requires : tie.Need-put-decimal-requires
+put-decimal-requires c κs = search needs
 
-put-byte-in-requires : tie.Need-put-byte-in-requires
-put-byte-in-requires c κs = let a = c .before .before .before .before .before .before .args in
-    put-room 1 (c .before .before .before .put-decimal-in .ensures .0) (omega (arith, length-append (decimal (a .v)) (a .end ∷ [])))
+put-byte-requires : tie.Need-put-byte-requires
+put-byte-requires c κs = search needs
 
 same-length : tie.Need-same-length
 same-length c = search needs
 
 returns : tie.Need-returns
-returns c = let b = c .before .before .before .before .before .before .before .before .before in
-    put-field (b .args .v) (b .args .end) (b .pre) (c .before .before .before .before .before .before .put-decimal-in .ensures .0) (c .before .before .put-byte-in .ensures .0)
+returns c =
+    put-field (c .before .before .before .before .before .before .before .before .before .args .v) (c .before .before .before .before .before .before .before .before .before .args .end) (c .before .before .before .before .before .before .before .before .before .pre) (c .before .before .before .before .before .before .put-decimal .ensures .0) (c .before .before .put-byte .ensures .0)
 
 pub put-field-spec : {M : Type 1} → statement M
-put-field-spec = tie.close (tie.spec put-decimal-in-requires put-byte-in-requires same-length returns)
+put-field-spec = tie.close (tie.spec put-decimal-requires put-byte-requires same-length returns)

@@ -1,7 +1,8 @@
 -- `log_texts::put_opening` meets its contract. Assumes nothing.
 use Rattle.text_fields.specs.Fields.{lineOf}
 use Rattle.log_texts.specs.Texts.{headerText}
-use Rattle.log_texts.specs.Room.{roomed-short, roomed-put, opened}
+use Rattle.text_writing.specs.Rows.{roomed-short, roomed-put}
+use Rattle.log_texts.specs.Room.{opened}
 use borrow.Author.Needs.{needs}
 use Rattle.log_texts.proofs.put_opening.Statement.{statement}
 use Rattle.log_texts.proofs.put_opening.Tie as tie

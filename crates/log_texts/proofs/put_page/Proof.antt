@@ -1,6 +1,7 @@
 -- `log_texts::put_page` meets its contract. Assumes nothing.
 use native.Mathlib.Omega.{arith}
-use Rattle.log_texts.specs.Writing.{put-room, field-byte, page-put, pageWord}
+use Rattle.text_writing.specs.Rows.{put-room}
+use Rattle.log_texts.specs.Writing.{field-byte, page-put, pageWord}
 use borrow.Author.Needs.{needs}
 use Rattle.log_texts.proofs.put_page.Statement.{statement}
 use Rattle.log_texts.proofs.put_page.Tie as tie

@@ -1,6 +1,7 @@
 -- `log_texts::put_refused` meets its contract. Assumes nothing.
 use native.Mathlib.Omega.{arith}
-use Rattle.log_texts.specs.Writing.{put-room, field-byte, refused-few, refused-put, refusedWord}
+use Rattle.text_writing.specs.Rows.{put-room}
+use Rattle.log_texts.specs.Writing.{field-byte, refused-few, refused-put, refusedWord}
 use borrow.Author.Needs.{needs}
 use Rattle.log_texts.proofs.put_refused.Statement.{statement}
 use Rattle.log_texts.proofs.put_refused.Tie as tie

@@ -1,6 +1,6 @@
 -- `log_texts::put_told` meets its contract. Assumes nothing.
 use native.Mathlib.Omega.{arith}
-use Rattle.log_texts.specs.Room.{roomed-short, roomed-made}
+use Rattle.text_writing.specs.Rows.{roomed-short, roomed-made}
 use borrow.Author.Needs.{needs}
 use Rattle.log_texts.proofs.put_told.Statement.{statement}
 use Rattle.log_texts.proofs.put_told.Tie as tie
