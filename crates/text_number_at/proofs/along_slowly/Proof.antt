@@ -13,7 +13,7 @@ field-end-requires c κs = search needs
 
 returns : tie.Need-returns
 returns c = let a = c .before .before .before .args in
-    along-open (a .bytes .now) (a .from) _ (c .before .field-end .ensures .0) (c .if1 .taken)
+    along-open (a .bytes .now) (a .from) _ (c .before .field-end .ensures .0) (omega arith)
 
 sub-f : tie.Need-sub-f
 sub-f c = search needs
