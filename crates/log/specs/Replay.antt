@@ -7,10 +7,8 @@ use mathlib.Core.List.{List, [], _∷_, _++_}
 use native.Mathlib.Omega.{arith}
 use lib.ListN.{length, take, drop}
 use borrow.Author.Tests.{ne-eqb}
-use Rattle.laws.specs.Tests.{clash}
 use Rattle.text_writing.specs.Placing.{Put}
-use Rattle.log_lines.specs.Lines.{plain, endOf}
-use Rattle.log_lines.specs.Walking.{Ended, ended-line}
+use Rattle.log_lines.specs.Walking.{Ended}
 use Rattle.log_lines.specs.Folded.{behindLog}
 use Rattle.log_lines.specs.Output as any
 use Rattle.log_lines.specs.Chunk as cut
@@ -19,17 +17,15 @@ use Rattle.log_lines.specs.Run.{closing}
 use Rattle.refusals.specs.declared.Verdict.{Verdict}
 use Rattle.refusals.specs.declared.Verdict.the-variants as verdict
 use Rattle.pack_state.specs.declared.Pack.{Pack}
+use Rattle.pack.specs.declared.Answered.{Answered}
 use Rattle.pack.specs.Kept.{afterLoad}
 use Rattle.log_entries.specs.declared.Entry.{Entry}
-use Rattle.log_entries.specs.declared.Ahead.{Ahead}
 use Rattle.log_entries.specs.Entry.{readEntry}
-use Rattle.log_entries.specs.Ahead.{readAhead, ahead-is}
-use Rattle.log_answers.specs.Tell.{tell, tell-overlong}
+use Rattle.log_answers.specs.Tell.{answeredAs, tell, tell-overlong, pack-read}
 use Rattle.log_texts.specs.Texts.{toldText, openingText}
 use Rattle.log_texts.specs.Room.{room, roomed, roomed-is, nothing-put}
 use Rattle.log_answers.specs.declared.Outcome.{Outcome}
 use Rattle.log.specs.declared.chunk.Fed.{Fed}
-use Rattle.log.specs.declared.chunk.NextEntry.{NextEntry}
 use Rattle.log.specs.declared.pass.Gone.{Gone}
 use Rattle.log.specs.declared.pass.Rest.{Rest}
 
@@ -95,39 +91,6 @@ pub closing-put : (buf : List ℕ) (held r : ℕ) (e : List ℕ) → (held ≡ 0
 unfolding closing
 closing-put buf held r e n p = rw (ne-eqb held 0 n) p
 
--- The next line of a text from a place on: its newline was found and it says what its bytes say, or no newline is left.
-pub record NextIs (text : List ℕ) (from : ℕ) (n : NextEntry) : Type 0 where
-  pub ended : n .unfinished ≡ false → Ended text from (n .next - 1) (n .next) × (n .entry ≡ readEntry (take (n .next - 1 - from) (drop from text)))
-  pub none : n .unfinished ≡ true → plain (drop from text) ≡ true
-
-abbrev pub nextAt : ℕ → Entry → NextEntry
-nextAt next e = record { unfinished = false; next = next; entry = e }
-
-module _ (text : List ℕ) (from : ℕ) where
-  -- The newline was found first, at end.
-  pub next-read : (end on : ℕ) → Ended text from end on → (e : Entry) → e ≡ readEntry (take (end - from) (drop from text))
-      → NextIs text from (nextAt on e)
-  next-read end on n e q =
-      let j : end ≡ on - 1 = omega (arith, n .after) in
-      record {
-        ended = λ t. (rw j at n, q ∙ ap (λ (i : ℕ). readEntry (take (i - from) (drop from text))) j);
-        none = λ t. clash t refl;
-      }
-
-  -- The line was read along.
-  pub next-ahead : (a : Ahead) → a ≡ readAhead text from → a .found ≡ true → NextIs text from (nextAt (a .end + 1) (a .entry))
-  next-ahead a q t =
-      let r = ahead-is text from (ap (λ (x : Ahead). x .found) (sym q) ∙ t) in
-      let at-end : a .end ≡ from + endOf (drop from text) = ap (λ (x : Ahead). x .end) q ∙ r .0 in
-      let n : Ended text from (a .end) (a .end + 1) =
-      record { is = at-end; after = refl; start = omega (arith, at-end); inside = omega (arith, at-end, r .1) } in
-      next-read (a .end) (a .end + 1) n (a .entry)
-      (ap (λ (x : Ahead). x .entry) q ∙ r .2 ∙ ap readEntry (sym (ended-line text from (a .end) (a .end + 1) n)))
-
-  -- No newline is left.
-  pub next-none : (n : NextEntry) → n .unfinished ≡ true → plain (drop from text) ≡ true → NextIs text from n
-  next-none n f p = record { ended = λ t. clash f t; none = λ t. p }
-
 -- One answer more in a chunk.
 module _ (text d : List ℕ) (s : Pack) (at w : ℕ) (k : Pack) (o : List ℕ) (g : cut.Going nextPack lineText room text d s at w k o) where
   pub chunk-on : (end on : ℕ) → Ended text at end on → w + room ≤ length o → (t : Outcome) → t ≡ tell k (take (end - at) (drop at text))
@@ -138,10 +101,10 @@ module _ (text d : List ℕ) (s : Pack) (at w : ℕ) (k : Pack) (o : List ℕ) (
       cut.going-on nextPack lineText room text d s at w k o g end on n h (toldText (t .told)) (t .pack) r e (rw i at few)
       (ap (λ (q : Outcome). toldText (q .told)) et) (ap (λ (q : Outcome). q .pack) et) (rw i at p)
 
--- One line more in a pass.
+-- One line more in a pass: the pack answered a to what the line says.
 module _ (text : List ℕ) (s : Pack) (at : ℕ) (k : Pack) (g : cut.Going nextPack noText 0 text [] s at 0 k []) where
-  pub pass-on : (end on : ℕ) → Ended text at end on → (t : Outcome) → t ≡ tell k (take (end - at) (drop at text))
-      → cut.Going nextPack noText 0 text [] s on 0 (t .pack) []
-  pass-on end on n t et =
-      cut.going-on nextPack noText 0 text [] s at 0 k [] g end on n (omega arith) [] (t .pack) 0 [] (omega arith) refl
-      (ap (λ (q : Outcome). q .pack) et) (nothing-put [] 0)
+  pub pass-on : (end on : ℕ) → Ended text at end on → (e : Entry) → e ≡ readEntry (take (end - at) (drop at text))
+      → (a : Answered) → a ≡ answeredAs (e .kind) k e → cut.Going nextPack noText 0 text [] s on 0 (a .pack) []
+  pass-on end on n e ee a ea =
+      cut.going-on nextPack noText 0 text [] s at 0 k [] g end on n (omega arith) [] (a .pack) 0 [] (omega arith) refl
+      (pack-read k (take (end - at) (drop at text)) e a ee ea) (nothing-put [] 0)

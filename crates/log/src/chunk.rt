@@ -1,8 +1,7 @@
 // A chunk of log answered line by line, and what has to wait for the next read.
 ghost use Rattle.pack.specs.Kept.{Kept};
-ghost use Rattle.log.specs.Replay.{AnswerChunk, Feed, NextIs};
-use log_entries::Entry;
-use log_lines::NextLine;
+ghost use Rattle.log.specs.Replay.{AnswerChunk, Feed};
+use crate::next::next_entry;
 use log_texts::ROOM;
 use pack_state::Pack;
 
@@ -21,43 +20,6 @@ pub struct Fed {
     pub held: usize,
     pub written: usize,
     pub pack: Pack,
-}
-
-// The next line of a buffer as a value: whether no newline is left; if one is, where the line behind it starts, and what it says.
-pub struct NextEntry {
-    pub unfinished: bool,
-    pub next: usize,
-    pub entry: Entry,
-}
-
-// The next line of the bytes from `from` on. Most are samples, and those are read along; the newline of any other is looked for first.
-fn next_entry(bytes: &[u8], from: usize) -> NextEntry
-    ensures { λ r. ⌜ NextIs (now (bytes .entry)) from r ⌝ }
-{
-    let a = log_entries::read_ahead(bytes, from);
-    let ahead = a.entry;
-    if a.found {
-        return NextEntry {
-            unfinished: false,
-            next: a.end + 1,
-            entry: ahead,
-        };
-    }
-    let n = log_lines::next_line(bytes, from);
-    let NextLine::Ends { end, next } = n else {
-        return NextEntry {
-            unfinished: true,
-            next: from,
-            entry: ahead,
-        };
-    };
-    let line = &bytes[from..end];
-    let e = log_entries::read_entry(line);
-    NextEntry {
-        unfinished: false,
-        next: next,
-        entry: e,
-    }
 }
 
 // Answers the lines that end in `bytes`, one behind the other, as long as the longest answer has room.

@@ -1,3 +1,4 @@
 pub mod chunk;
 pub mod ends;
+pub mod next;
 pub mod pass;

@@ -1,7 +1,7 @@
 // A pass over a log that writes no text: the pack behind it, wherever the reads cut it.
 ghost use Rattle.pack.specs.Kept.{Kept};
 ghost use Rattle.log.specs.Replay.{PassChunk, Pass};
-use log_lines::NextLine;
+use crate::next::next_entry;
 use pack_state::Pack;
 
 // How far a pass over a chunk of log came: the bytes used, and the pack behind them.
@@ -26,14 +26,14 @@ pub fn pass_chunk(p: Pack, bytes: &[u8]) -> Gone
     let mut k = p;
     let mut at: usize = 0;
     loop {
-        let n = log_lines::next_line(bytes, at);
-        let NextLine::Ends { end, next } = n else {
+        let n = next_entry(bytes, at);
+        if n.unfinished {
             return Gone { used: at, pack: k };
-        };
-        let line = &bytes[at..end];
-        let t = log_answers::tell(k, line);
-        k = t.pack;
-        at = next;
+        }
+        let entry = n.entry;
+        let a = log_answers::answered_by(k, entry);
+        k = a.pack;
+        at = n.next;
     }
 }
 

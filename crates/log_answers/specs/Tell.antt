@@ -65,3 +65,8 @@ entry-made p e a r ea er kept = (rw (← ea) er, rw er kept)
 pub tell-read : (p : Pack) (line : List ℕ) (e : Entry) (r : Outcome) → e ≡ readEntry line → r ≡ tellEntry p e → r ≡ tell p line
 unfolding tell
 tell-read p line e r ee er = er ∙ ap (tellEntry p) ee
+
+-- The line was read as e, and the pack answered a to that: so the pack behind the line is that of a.
+pub pack-read : (p : Pack) (line : List ℕ) (e : Entry) (a : Answered) → e ≡ readEntry line → a ≡ answeredAs (e .kind) p e → a .pack ≡ tell p line .pack
+unfolding tell outcomeOf
+pack-read p line e a ee ea = ap (λ (x : Answered). x .pack) ea ∙ ap (λ (x : Entry). answeredAs (x .kind) p x .pack) ee

@@ -45,8 +45,8 @@ fn outcome_of(kind: Kind, a: Answered) -> Outcome
 }
 
 // What a pack answers to a line that was read: a sample is offered, a command is given, and a malformed line is refused with 17 and moves
-// nothing.
-fn answered_by(p: Pack, e: Entry) -> Answered
+// nothing. A pass over a log, which shows no decision, needs no more.
+pub fn answered_by(p: Pack, e: Entry) -> Answered
     requires { ⌜ Kept p ⌝ }
     ensures { λ r. ⌜ r ≡ answeredAs (e .kind) p e ⌝ }
     ensures { λ r. ⌜ Kept (r .pack) ⌝ }

@@ -4,6 +4,7 @@ use lib.ListN.{length}
 use Rattle.log_lines.specs.Chunk.{Going, going-start, going-done, going-full}
 use Rattle.pack.specs.Kept.{Kept}
 use Rattle.log_answers.specs.Tell.{tell-read}
+use Rattle.log.specs.Next.{next-is}
 use Rattle.log.specs.Replay.{nextPack, lineText, chunk-on}
 use Rattle.log_texts.specs.Room.{room}
 use borrow.Author.Needs.{needs}
@@ -29,7 +30,7 @@ same-length c = c .before .before .loop .inv .0 .same
 returns : tie.Need-returns Inv-loop μ-loop
 returns c =
     let i = c .before .before .loop .inv in
-    (going-done nextPack lineText room _ _ _ _ _ _ _ (i .0) (c .before .next-entry .ensures .none (c .if1 .taken)), i .1)
+    (going-done nextPack lineText room _ _ _ _ _ _ _ (i .0) ((next-is _ _ _ (c .before .next-entry .ensures)) .none (c .if1 .taken)), i .1)
 
 add-if2 : tie.Need-add-if2 Inv-loop μ-loop
 add-if2 c = search needs
@@ -40,7 +41,7 @@ same-length-2 c = c .before .before .before .loop .inv .0 .same
 returns-2 : tie.Need-returns-2 Inv-loop μ-loop
 returns-2 c =
     let i = c .before .before .before .loop .inv in
-    let e = c .before .before .next-entry .ensures .ended (c .before .if1 .left) in
+    let e = (next-is _ _ _ (c .before .before .next-entry .ensures)) .ended (c .before .if1 .left) in
     (going-full nextPack lineText room _ _ _ _ _ _ _ (i .0) _ _ (e .0) (c .if2 .taken), i .1)
 
 tell-entry-requires : tie.Need-tell-entry-requires Inv-loop μ-loop
@@ -51,14 +52,14 @@ put-told-requires c κs = search needs
 
 loop-less : tie.Need-loop-less Inv-loop μ-loop
 loop-less c =
-    let e = c .before .before .before .before .before .before .before .before .before .next-entry .ensures .ended (c .before .before .before .before .before .before .before .before .if1 .left) in
+    let e = (next-is _ _ _ (c .before .before .before .before .before .before .before .before .before .next-entry .ensures)) .ended (c .before .before .before .before .before .before .before .before .if1 .left) in
     let n = e .0 in
     omega (arith, n .after, n .start, n .inside)
 
 loop-again : tie.Need-loop-again Inv-loop μ-loop
 loop-again c =
     let i = c .before .before .before .before .before .before .before .before .before .before .loop .inv in
-    let e = c .before .before .before .before .before .before .before .before .before .next-entry .ensures .ended (c .before .before .before .before .before .before .before .before .if1 .left) in
+    let e = (next-is _ _ _ (c .before .before .before .before .before .before .before .before .before .next-entry .ensures)) .ended (c .before .before .before .before .before .before .before .before .if1 .left) in
     let t = c .before .before .before .before .before .tell-entry .ensures in
     let p = c .before .before .before .put-told .ensures in
     (chunk-on _ _ _ _ _ _ _ (i .0) _ _ (e .0) (c .before .before .before .before .before .before .before .if2 .left) _ (tell-read _ _ _ _ (e .1) (t .0)) _ _ (p .1) (p .0), t .1)

@@ -1,12 +1,11 @@
 -- `log::pass::pass_chunk` meets its contract. The loop keeps `Going` (crate log_lines, Chunk) with answers of no text, and that the pack is
 -- kept. Assumes nothing.
 use mathlib.Core.List.{[]}
-use mathlib.Core.Path.{sym, _∙_}
 use Prim.Native.Nat.{_-_}
 use lib.ListN.{length}
-use Rattle.log_lines.specs.Walking.{next-ends, next-unfinished}
 use Rattle.log_lines.specs.Chunk.{Going, going-start, going-done}
 use Rattle.pack.specs.Kept.{Kept}
+use Rattle.log.specs.Next.{next-is}
 use Rattle.log.specs.Replay.{nextPack, noText, pass-on}
 use borrow.Author.Needs.{needs}
 use native.Mathlib.Omega.{arith}
@@ -22,48 +21,29 @@ abbrev μ-loop : tie.MeasureT-loop
 loop-holds : tie.Need-loop-holds Inv-loop μ-loop
 loop-holds c = (going-start nextPack noText 0 _ _ _, c .before .pre)
 
-next-line-requires : tie.Need-next-line-requires Inv-loop μ-loop
-next-line-requires c κs = search needs
-
-enum-known-n : tie.Need-enum-known-n Inv-loop μ-loop
-enum-known-n c = search needs
-
-enum-told : tie.Need-enum-told Inv-loop μ-loop
-enum-told c = search needs
+next-entry-requires : tie.Need-next-entry-requires Inv-loop μ-loop
+next-entry-requires c κs = search needs
 
 returns : tie.Need-returns Inv-loop μ-loop
 returns c =
-    let i = c .before .before .before .loop .inv in
-    (going-done nextPack noText 0 _ _ _ _ _ _ _ (i .0) (next-unfinished _ _ (sym (c .before .before .next-line .ensures) ∙ c .enum-told .given .1)), i .1)
+    let i = c .before .before .loop .inv in
+    (going-done nextPack noText 0 _ _ _ _ _ _ _ (i .0) (next-is _ _ _ (c .before .next-entry .ensures) .none (c .if1 .taken)), i .1)
 
-sub-line : tie.Need-sub-line Inv-loop μ-loop
-sub-line c =
-    let n = c .before .n .given in
-    let e = next-ends _ _ (n .0 .0) (n .0 .1 .0) (sym (c .before .before .before .next-line .ensures) ∙ n .1) in omega arith
-
-part-line-start : tie.Need-part-line-start Inv-loop μ-loop
-part-line-start c =
-    let n = c .before .n .given in
-    let e = next-ends _ _ (n .0 .0) (n .0 .1 .0) (sym (c .before .before .before .next-line .ensures) ∙ n .1) in omega arith
-
-part-line-end : tie.Need-part-line-end Inv-loop μ-loop
-part-line-end c =
-    let n = c .before .n .given in
-    let e = next-ends _ _ (n .0 .0) (n .0 .1 .0) (sym (c .before .before .before .next-line .ensures) ∙ n .1) in omega arith
-
-tell-requires : tie.Need-tell-requires Inv-loop μ-loop
-tell-requires c κs = c .before .before .before .before .before .loop .inv .1
+answered-by-requires : tie.Need-answered-by-requires Inv-loop μ-loop
+answered-by-requires c κs = c .before .before .before .loop .inv .1
 
 loop-less : tie.Need-loop-less Inv-loop μ-loop
 loop-less c =
-    let n = c .before .before .before .before .n .given in
-    let e = next-ends _ _ (n .0 .0) (n .0 .1 .0) (sym (c .before .before .before .before .before .before .next-line .ensures) ∙ n .1) in omega arith
+    let e = next-is _ _ _ (c .before .before .before .before .next-entry .ensures) .ended (c .before .before .before .if1 .left) in
+    let n = e .0 in
+    omega (arith, n .after, n .start, n .inside)
 
 loop-again : tie.Need-loop-again Inv-loop μ-loop
 loop-again c =
-    let n = c .before .before .before .before .n .given in
-    let e = next-ends _ _ (n .0 .0) (n .0 .1 .0) (sym (c .before .before .before .before .before .before .next-line .ensures) ∙ n .1) in
-    (pass-on _ _ _ _ (c .before .before .before .before .before .before .before .loop .inv .0) _ _ e _ (c .before .tell .ensures .0), c .before .tell .ensures .1)
+    let i = c .before .before .before .before .before .loop .inv in
+    let e = next-is _ _ _ (c .before .before .before .before .next-entry .ensures) .ended (c .before .before .before .if1 .left) in
+    let a = c .before .answered-by .ensures in
+    (pass-on _ _ _ _ (i .0) _ _ (e .0) _ (e .1) _ (a .0), a .1)
 
 pub pass-chunk-spec : {M : Type 1} → statement M
 pass-chunk-spec =
@@ -72,13 +52,8 @@ pass-chunk-spec =
     Inv-loop
     μ-loop
     loop-holds
-    next-line-requires
-    enum-known-n
-    enum-told
+    next-entry-requires
     returns
-    sub-line
-    part-line-start
-    part-line-end
-    tell-requires
+    answered-by-requires
     loop-less
     loop-again)

@@ -1,13 +1,13 @@
--- `log::chunk::next_entry` meets its contract: a line read along is the line up to the next newline. Assumes nothing.
-use mathlib.Core.Path.{refl, sym, ap, _∙_}
+-- `log::next::next_entry` meets its contract: a line read along is the line up to the next newline. Assumes nothing.
+use mathlib.Core.Path.{sym, ap, _∙_}
 use native.Mathlib.Omega.{arith}
-use Rattle.log_lines.specs.Walking.{next-ends, next-unfinished}
+use Rattle.log_lines.specs.Walking.{next-ends}
 use Rattle.log_entries.specs.declared.Ahead.{Ahead}
 use Rattle.log_entries.specs.Ahead.{ahead-is}
-use Rattle.log.specs.Replay.{next-ahead, next-read, next-none}
+use Rattle.log.specs.Next.{next-ahead, next-read, next-none}
 use borrow.Author.Needs.{needs}
-use Rattle.log.proofs.chunk.next_entry.Statement.{statement}
-use Rattle.log.proofs.chunk.next_entry.Tie as tie
+use Rattle.log.proofs.next.next_entry.Statement.{statement}
+use Rattle.log.proofs.next.next_entry.Tie as tie
 
 read-ahead-requires : tie.Need-read-ahead-requires
 read-ahead-requires c κs = search needs
@@ -36,7 +36,8 @@ enum-told c = search needs
 returns-2 : tie.Need-returns-2
 returns-2 c =
     let a = c .before .before .before .before .before .before .before .args in
-    next-none (a .bytes .now) (a .from) _ refl (next-unfinished (a .bytes .now) (a .from) (sym (c .before .before .next-line .ensures) ∙ c .enum-told .given .1))
+    next-none (a .bytes .now) (a .from) _ (c .before .before .before .before .before .read-ahead .ensures) (c .before .before .before .if1 .left)
+    (sym (c .before .before .next-line .ensures) ∙ c .enum-told .given .1)
 
 sub-line : tie.Need-sub-line
 sub-line c =
@@ -60,8 +61,8 @@ returns-3 : tie.Need-returns-3
 returns-3 c =
     let a = c .before .before .before .before .before .before .before .before .before .before .args in
     let n = c .before .before .before .n .given in
-    let e = next-ends (a .bytes .now) (a .from) (n .0 .0) (n .0 .1 .0) (sym (c .before .before .before .before .before .next-line .ensures) ∙ n .1) in
-    next-read (a .bytes .now) (a .from) (n .0 .0) (n .0 .1 .0) e _ (c .read-entry .ensures)
+    next-read (a .bytes .now) (a .from) (n .0 .0) (n .0 .1 .0) _ (sym (c .before .before .before .before .before .next-line .ensures) ∙ n .1)
+    (c .read-entry .ensures)
 
 pub next-entry-spec : {M : Type 1} → statement M
 next-entry-spec =
