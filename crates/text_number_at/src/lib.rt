@@ -1,5 +1,6 @@
 // Numbers read in place: the field that starts at a place of a line. Most numbers of a log have four digits, and those are read at once.
 ghost use mathlib.Core.Path.{_≡_};
+ghost use mathlib.Core.Bool.{true};
 ghost use mathlib.Core.List.{[], _∷_};
 ghost use Prim.Native.Nat.{_+_, _-_, _<_, _≤_};
 ghost use lib.ListN.{length};
@@ -43,24 +44,35 @@ fn valued(x: u32) -> u16
     (pairs % 256 * 100 + pairs / 65536 % 256) as u16
 }
 
-// The number that four bytes spell, or 0: then they spell none, or one that begins with 0. 0x30303030 is b'0' four times.
-fn four(a: u8, b: u8, c: u8, d: u8) -> u16
-    ensures { λ r. ⌜ (0 < r → readNumber (a ∷ b ∷ c ∷ d ∷ []) ≡ Value r) ⌝ }
+// Four bytes read at once: whether they spell a number that does not begin with 0, and the number; if not, it is 0.
+struct FourRead {
+    spelt: bool,
+    number: u16,
+}
+
+// Four bytes read at once. 0x30303030 is b'0' four times.
+fn four(a: u8, b: u8, c: u8, d: u8) -> FourRead
+    ensures { λ r. ⌜ (r .spelt ≡ true → readNumber (a ∷ b ∷ c ∷ d ∷ []) ≡ Value (r .number)) ⌝ }
 {
     let x = together(a, b, c, d) ^ 0x30303030;
     if all_digits(x) {
-        if x % 256 == 0 {
-            return 0;
+        if x % 256 != 0 {
+            return FourRead {
+                spelt: true,
+                number: valued(x),
+            };
         }
-        return valued(x);
     }
-    0
+    FourRead {
+        spelt: false,
+        number: 0,
+    }
 }
 
 // The same for the four bytes from `from` on.
-fn four_at(line: &[u8], from: usize) -> u16
+fn four_at(line: &[u8], from: usize) -> FourRead
     requires { ⌜ from + 4 ≤ length (now line) ⌝ }
-    ensures { λ r. ⌜ (0 < r → readNumber (fourAt (now (line .entry)) from) ≡ Value r) ⌝ }
+    ensures { λ r. ⌜ (r .spelt ≡ true → readNumber (fourAt (now (line .entry)) from) ≡ Value (r .number)) ⌝ }
 {
     four(line[from], line[from + 1], line[from + 2], line[from + 3])
 }
@@ -100,10 +112,10 @@ pub fn number_at(line: &[u8], from: usize) -> FieldNumber
     ensures { λ r. ⌜ r ≡ numberAt (now (line .entry)) from ⌝ }
 {
     if four_left(line, from) {
-        let v = four_at(line, from);
-        if 0 < v {
+        let f = four_at(line, from);
+        if f.spelt {
             return FieldNumber::Value {
-                number: v,
+                number: f.number,
                 end: from + 4,
             };
         }
@@ -174,10 +186,10 @@ pub fn number_along(bytes: &[u8], from: usize) -> FieldNumber
     ensures { λ r. ⌜ r ≡ numberAlong (now (bytes .entry)) from ⌝ }
 {
     if four_ended(bytes, from) {
-        let v = four_at(bytes, from);
-        if 0 < v {
+        let f = four_at(bytes, from);
+        if f.spelt {
             return FieldNumber::Value {
-                number: v,
+                number: f.number,
                 end: from + 4,
             };
         }

@@ -1,9 +1,9 @@
 -- `four` meets its contract: four bytes that pass the test are the digits of a number.
-use mathlib.Core.Path.{sym, ap, _∙_}
+use mathlib.Core.Path.{refl, sym, ap, _∙_}
 use Prim.Native.Nat.{ℕ}
 use lib.Bits.{bitXor}
-use native.Mathlib.Omega.{arith}
 use borrow.Author.Needs.{needs}
+use Rattle.laws.specs.Tests.{clash}
 use Rattle.text_number_at.specs.Four.{nine-most, spelt-is}
 use Rattle.text_number_at.specs.NumberAt.{four-value}
 use Rattle.text_number_at.proofs.four.Statement.{statement}
@@ -15,9 +15,6 @@ together-requires c κs = search needs
 all-digits-requires : tie.Need-all-digits-requires
 all-digits-requires c κs = search needs
 
-returns : tie.Need-returns
-returns c some = absurd (omega arith)
-
 valued-requires : tie.Need-valued-requires
 valued-requires c κs =
     let d = c .before .before in
@@ -25,19 +22,22 @@ valued-requires c κs =
     nine-most (s .a) (s .b) (s .c) (s .d) _ (search needs) (search needs) (search needs) (search needs)
     (ap (λ (y : ℕ). bitXor y 0x30303030) (d .before .together .ensures)) (sym (d .all-digits .ensures) ∙ c .before .if1 .taken)
 
-returns-2 : tie.Need-returns-2
-returns-2 c some =
+returns : tie.Need-returns
+returns c some =
     let d = c .before .before .before in
     let s = d .before .before .args in
     four-value _ _ _ _ _
     (spelt-is (s .a) (s .b) (s .c) (s .d) _ (search needs) (search needs) (search needs) (search needs)
     (ap (λ (y : ℕ). bitXor y 0x30303030) (d .before .together .ensures)) (sym (d .all-digits .ensures) ∙ c .before .before .if1 .taken)
-    _ (c .before .if2 .left) (c .valued .ensures))
+    _ (c .before .if2 .taken) (c .valued .ensures))
+
+returns-2 : tie.Need-returns-2
+returns-2 c some = clash some refl
 
 returns-3 : tie.Need-returns-3
-returns-3 c some = absurd (omega arith)
+returns-3 c some = clash some refl
 
 pub four-spec : {M : Type 1} → statement M
 four-spec =
     tie.close
-    (tie.spec together-requires all-digits-requires returns valued-requires returns-2 returns-3)
+    (tie.spec together-requires all-digits-requires valued-requires returns returns-2 returns-3)
