@@ -3,5 +3,6 @@ pub mod Runs
 -- To be believed: each protection and all of them from the page's limits and the history. Then the step of the code, and that it leads from what
 -- a history says to what the longer history says.
 pub mod Steps
--- Computed cases: the starred run of samples, each direction, the ends of a signed current, the runs, a sample between the levels.
+-- Computed cases: the starred run of samples, each direction, the ends of a signed current, the runs, a sample between the levels,
+-- some of the protections stepped.
 pub mod Cases
