@@ -1,11 +1,12 @@
 -- Laws of the word of who wants, as the code makes it.
 -- Assumes nothing.
 use mathlib.Core.Path.{_≡_, sym, ap}
-use mathlib.Core.Bool.{Bool, true, false}
+use mathlib.Core.Bool.{Bool, true, false, _&&_}
 use mathlib.Core.List.{List}
 use mathlib.Core.Logic.{_⊎_, ⊎-elim}
 use Prim.Native.Nat.{ℕ, suc, _-_}
 use native.Mathlib.Omega.{arith}
+use lib.Dec.{ltb}
 use lib.ListN.{getD}
 use Rattle.laws.specs.Tests.{by-test}
 use Rattle.units.specs.declared.MilliVolts.{MilliVolts}
@@ -28,8 +29,9 @@ after-one : (i : ℕ) → suc i - 1 ≡ i
 after-one i = omega arith
 
 -- Cell i + 1 is entry i of the array. The loop is reached only with a charge and no protection raised.
-pub wishes-at : (charges raised : Bool) (floor difference lowest : ℕ) (cells : List MilliVolts) (i : ℕ) → charges ≡ true → raised ≡ false
-    → wants true false floor difference lowest (getD cells i (record { 0 = 0 }) .0) ≡ wishes charges raised floor difference lowest cells (suc i)
+pub wishes-at : (n : ℕ) (charges raised : Bool) (floor difference lowest : ℕ) (cells : List MilliVolts) (i : ℕ) → charges ≡ true → raised ≡ false
+    → ltb i n && wants true false floor difference lowest (getD cells i (record { 0 = 0 }) .0)
+    ≡ ltb i n && wishes charges raised floor difference lowest cells (suc i)
 unfolding wishes voltsOf
-wishes-at charges raised floor difference lowest cells i c r =
-    rw (c, r) (ap (λ (x : ℕ). wants true false floor difference lowest (getD cells x (record { 0 = 0 }) .0)) (sym (after-one i)))
+wishes-at n charges raised floor difference lowest cells i c r =
+    rw (c, r) (ap (λ (x : ℕ). ltb i n && wants true false floor difference lowest (getD cells x (record { 0 = 0 }) .0)) (sym (after-one i)))

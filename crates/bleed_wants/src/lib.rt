@@ -1,11 +1,11 @@
 // Who wants bleeding: one cell's wish, and the wishes of a pack as a word, bit k - 1 for cell k.
 ghost use mathlib.Core.Path.{_≡_};
 ghost use Rattle.bleed_wants.specs.Wants.{isCharging, wants};
-ghost use mathlib.Core.Bool.{true, false};
+ghost use mathlib.Core.Bool.{true, false, _&&_};
+ghost use lib.Dec.{ltb};
 ghost use Rattle.bleed_wants.specs.Steps.{wantingWord};
 use laws::with_bit_if;
 use units::MilliVolts;
-use units::ten_at_most;
 
 // The current is at least the charge detection current.
 pub fn is_charging(detection: i16, current: i16) -> bool
@@ -30,7 +30,21 @@ fn wants_one(
     (lowest.0 as u32) + (difference.0 as u32) < cell.0 as u32
 }
 
-// The word of the cells that want bleeding, of cells 1 to n: bit k - 1 for cell k.
+// Cell `at` + 1 wants: it is a cell of the pack, and has the wish.
+fn wants_at(
+    n: u8,
+    at: u8,
+    floor: MilliVolts,
+    difference: MilliVolts,
+    lowest: MilliVolts,
+    cell: MilliVolts,
+) -> bool
+    ensures { λ r. ⌜ r ≡ ltb at n && wants true false (floor .0) (difference .0) (lowest .0) (cell .0) ⌝ }
+{
+    at < n && wants_one(floor, difference, lowest, cell)
+}
+
+// The word of the cells that want bleeding, of cells 1 to n: bit k - 1 for cell k. All ten entries are asked.
 pub fn wanting_word(
     n: u8,
     charging: bool,
@@ -49,13 +63,12 @@ pub fn wanting_word(
     if raised {
         return 0;
     }
-    let last = ten_at_most(n);
     let mut word: u16 = 0;
-    let mut i: usize = 0;
-    while i < last {
-        let cell = cells[i];
-        let on = wants_one(floor, difference, lowest, cell);
-        word = with_bit_if(word, i as u8, on);
+    let mut i: u8 = 0;
+    while i < 10 {
+        let cell = cells[i as usize];
+        let on = wants_at(n, i, floor, difference, lowest, cell);
+        word = with_bit_if(word, i, on);
         i += 1;
     }
     word

@@ -23,7 +23,8 @@ use Rattle.refusals.specs.declared.Verdict.the-variants.{Accepted, Refused}
 use Rattle.sample.specs.declared.Sample.{Sample}
 use Rattle.sample.specs.Measure.{trips, qualifies}
 use Rattle.protections.specs.Limits.{limitsAt}
-use Rattle.guard.specs.Steps.{raised, raised-when, released-when}
+use Rattle.guard.specs.Steps.{raised}
+use Rattle.guard.specs.StepLaws.{raised-when, released-when}
 use Rattle.laws.specs.Words.{bitsOf, anyOf, any-yes, bits-past}
 use Rattle.guard_raised.specs.Words.{raisedAfter, raisedWordAfter, anyRaisedAfter, blocksAfter, raisedWordAfter-has, raisedWordAfter-short, anyRaisedAfter-word}
 use Rattle.page_settings.specs.declared.Settings.{Settings}

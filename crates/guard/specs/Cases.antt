@@ -6,6 +6,7 @@ use mathlib.Core.List.{List, [], _∷_, reverse}
 use Prim.Native.Nat.{ℕ}
 use lib.Dec.{eqb}
 use lib.IntN.{ℤ, pos}
+use Rattle.laws.specs.Each.{eachTo, eachFrom}
 use Rattle.laws.specs.Latest.{nextRun}
 use Rattle.units.specs.Levels.{level}
 use Rattle.protections.specs.declared.Limits.{Limits}
@@ -18,7 +19,7 @@ use Rattle.guard.specs.declared.rule.Alarm.{Alarm}
 use Rattle.guard.specs.declared.rule.Alarm.the-variants.{Clear, Raised}
 use Rattle.guard.specs.declared.rule.Protection.{Protection}
 use Rattle.guard.specs.Runs.{isRaised, alarmRunOf, alarmAfter, alarmStepped}
-use Rattle.guard.specs.Steps.{raised, protectionAfter, stepOne, stepAt, clear}
+use Rattle.guard.specs.Steps.{raised, protectionAfter, stepOne, stepAt, stepAll, stepSome, clear}
 
 -- ---- limits and samples, written short
 
@@ -163,3 +164,42 @@ runs-read = refl
 pub at-load : clear (limited (pos 4250) (pos 4150) 3 2 1) ≡ record { limits = limited (pos 4250) (pos 4150) 3 2 1; alarm = Clear 0 }
 unfolding clear
 at-load = refl
+
+-- ---- some of the protections stepped
+
+abbrev standing : List Limits → List Alarm → List Protection
+standing [] rest = []
+standing (l ∷ ls) [] = []
+standing (l ∷ ls) (a ∷ rest) = record { limits = l; alarm = a } ∷ standing ls rest
+
+abbrev mixedLimits : List Limits
+mixedLimits =
+    limited (pos 4250) (pos 4150) 3 2 1
+    ∷ limited (pos 3000) (pos 3200) 3 2 2
+    ∷ limited (pos 5000) (pos 100) 3 2 1
+    ∷ limited (belowZero 5000) (belowZero 100) 3 2 2
+    ∷ limited (belowZero 6000) (belowZero 100) 1 1 2
+    ∷ limited (pos 3200) (pos 3100) 3 2 1
+    ∷ limited (pos 3300) (pos 3200) 3 2 2
+    ∷ limited (pos 3300) (pos 3200) 1 1 3
+    ∷ limited (pos 2730) (pos 2780) 3 2 1
+    ∷ limited (pos 2630) (pos 2680) 3 3 2
+    ∷ []
+
+abbrev mixedSample : Sample
+mixedSample = sampled 2 (3000 ∷ 4250 ∷ 0 ∷ 0 ∷ 0 ∷ 0 ∷ 0 ∷ 0 ∷ 0 ∷ 0 ∷ []) (belowZero 6000) 3200 3300
+
+abbrev mixedBefore : List Protection
+mixedBefore =
+    standing mixedLimits (Clear 1 ∷ Clear 2 ∷ Raised 1 ∷ Clear 1 ∷ Clear 0 ∷ Clear 1 ∷ Clear 1 ∷ Clear 0 ∷ Raised 1 ∷ Raised 1 ∷ [])
+
+-- Protections 2, 3 and 4 one sample on, the others as they were: the sample would have moved each of them.
+pub some-stepped :
+    stepSome (extremesOf (mixedSample .cells) (mixedSample .count)) mixedSample 2 5 mixedBefore
+    ∷ stepAll (extremesOf (mixedSample .cells) (mixedSample .count)) mixedSample mixedBefore
+    ∷ []
+    ≡ standing mixedLimits (Clear 1 ∷ Clear 2 ∷ Clear 0 ∷ Clear 2 ∷ Raised 0 ∷ Clear 1 ∷ Clear 1 ∷ Clear 0 ∷ Raised 1 ∷ Raised 1 ∷ [])
+    ∷ standing mixedLimits (Clear 2 ∷ Raised 0 ∷ Clear 0 ∷ Clear 2 ∷ Raised 0 ∷ Clear 2 ∷ Clear 0 ∷ Raised 0 ∷ Clear 0 ∷ Raised 2 ∷ [])
+    ∷ []
+unfolding stepAll stepOne stepAt eachTo eachFrom nextRun rowAt table extremesOf bestOf
+some-stepped = refl

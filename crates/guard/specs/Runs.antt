@@ -42,7 +42,7 @@ abbrev pub nextAlarm : ℕ → ℕ → Bool → Bool → Alarm → Alarm
 nextAlarm N M trip qualify (Clear run) = nextClear N trip run
 nextAlarm N M trip qualify (Raised run) = nextRaised M qualify run
 
--- What the four branches of the code come to: r is the run with this sample.
+-- What the branches of the code come to: r is the run with this sample.
 pub clear-reached : (N run r : ℕ) (trip : Bool) → r ≡ nextRun trip run → N ≤ r → nextClear N trip run ≡ Raised 0
 clear-reached N run r trip e h = rw (← e, le-leb N r h)
 

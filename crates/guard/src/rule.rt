@@ -34,7 +34,14 @@ fn has_reached(d: Direction, level: Level, value: Level) -> bool
 fn next_clear(n: u8, trips: bool, old: u8) -> Alarm
     ensures { λ r. ⌜ r ≡ nextClear n trips old ⌝ }
 {
-    let run = next_run(trips, old);
+    // Most samples do not trip, and are answered first: the run ends. No accepted page has an N of 0, for which a run of none would do.
+    if !trips {
+        if n != 0 {
+            return Alarm::Clear(0);
+        }
+        return Alarm::Raised(0);
+    }
+    let run = next_run(true, old);
     if n <= run {
         Alarm::Raised(0)
     } else {
@@ -46,7 +53,14 @@ fn next_clear(n: u8, trips: bool, old: u8) -> Alarm
 fn next_raised(m: u8, qualifies: bool, old: u8) -> Alarm
     ensures { λ r. ⌜ r ≡ nextRaised m qualifies old ⌝ }
 {
-    let run = next_run(qualifies, old);
+    // A sample that does not qualify ends the run.
+    if !qualifies {
+        if m != 0 {
+            return Alarm::Raised(0);
+        }
+        return Alarm::Clear(0);
+    }
+    let run = next_run(true, old);
     if m <= run {
         Alarm::Clear(0)
     } else {

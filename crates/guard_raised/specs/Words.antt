@@ -15,7 +15,8 @@ use Rattle.protections.specs.Table.{rowAt, protections}
 use Rattle.sample.specs.declared.Sample.{Sample}
 use Rattle.guard.specs.declared.rule.Protection.{Protection}
 use Rattle.guard.specs.Runs.{isRaised}
-use Rattle.guard.specs.Steps.{noProtection, raised, protectionsAfter, protections-at, protection-raised, protection-limits}
+use Rattle.guard.specs.Steps.{noProtection, raised, protectionsAfter}
+use Rattle.guard.specs.StepLaws.{protections-at, protection-raised, protection-limits}
 
 -- ---- from the page's limits and the history
 

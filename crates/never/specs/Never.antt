@@ -27,7 +27,8 @@ use Rattle.sample.specs.declared.Sample.{Sample}
 use Rattle.sample.specs.None.{noSample}
 use Rattle.sample.specs.Cells.{noVolts, lowest-among, lowest-least, extremesOf}
 use Rattle.sample.specs.Measure.{trips, qualifies}
-use Rattle.guard.specs.Steps.{raised, raised-when, released-when, never-at-once}
+use Rattle.guard.specs.Steps.{raised}
+use Rattle.guard.specs.StepLaws.{raised-when, released-when, never-at-once}
 use Rattle.bleed_wants.specs.Wants.{wants}
 use Rattle.bleed_wants.specs.Word.{holdsCell}
 use Rattle.bleed_wants.specs.Steps.{voltsOf, wishes}

@@ -14,7 +14,8 @@ use Rattle.protections.specs.declared.Direction.the-variants.{Below}
 use Rattle.protections.specs.declared.Quantity.the-variants.{Temperature1}
 use Rattle.sample.specs.declared.Sample.{Sample}
 use Rattle.sample.specs.Measure.{measure}
-use Rattle.guard.specs.Steps.{raised, raised-never}
+use Rattle.guard.specs.Steps.{raised}
+use Rattle.guard.specs.StepLaws.{raised-never}
 use Rattle.guard_raised.specs.Words.{raisedAfter, raisedWordAfter, anyRaisedAfter, blocksAfter}
 use Rattle.guard_raised.specs.Words.{raisedWordAfter-short, anyRaisedAfter-short, blocksAfter-short}
 use Rattle.page_settings.specs.Settings.{pageProtections, absent, limitsOf}

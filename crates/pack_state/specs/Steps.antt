@@ -15,7 +15,8 @@ use Rattle.sample.specs.declared.Sample.{Sample}
 use Rattle.sample.specs.Cells.{extremesOf}
 use Rattle.guard.specs.declared.rule.Protection.{Protection}
 use Rattle.protections.specs.Limits.{AllGood}
-use Rattle.guard.specs.Steps.{protectionsAfter, protections-step}
+use Rattle.guard.specs.Steps.{protectionsAfter}
+use Rattle.guard.specs.StepLaws.{protections-step}
 use Rattle.guard_raised.specs.Words.{anyRaised-is}
 use Rattle.page_settings.specs.declared.Settings.{Settings}
 use Rattle.page_settings.specs.Good.{Good}

@@ -3,7 +3,8 @@ use mathlib.Core.Path.{_≡_, refl, _∙_}
 use Prim.Native.Nat.{_-_, _≤_}
 use Rattle.laws.specs.Each.{eachTo}
 use Rattle.protections.specs.Table.{protections}
-use Rattle.guard.specs.Steps.{noProtection, clearAt, clear-next, fresh-is}
+use Rattle.guard.specs.Steps.{noProtection, clearAt}
+use Rattle.guard.specs.StepLaws.{clear-next, fresh-is}
 use borrow.Author.Needs.{needs}
 use native.Mathlib.Omega.{arith}
 use Rattle.guard.proofs.all.fresh.Statement.{statement}

@@ -2,7 +2,8 @@
 use mathlib.Core.Path.{_∙_, ap}
 use native.Mathlib.Omega.{arith}
 use Rattle.protections.specs.Table.{protections}
-use Rattle.guard.specs.Steps.{stepSome, step-parts}
+use Rattle.guard.specs.Steps.{stepSome}
+use Rattle.guard.specs.StepLaws.{step-parts}
 use borrow.Author.Needs.{needs}
 use Rattle.guard.proofs.all.step_all.Statement.{statement}
 use Rattle.guard.proofs.all.step_all.Tie as tie
