@@ -1,15 +1,15 @@
 -- What the code needs of the verdicts: test by test, and by document 01's number and word.
 -- Assumes nothing.
 use mathlib.Core.Path.{_≡_, ap, _∙_}
-use mathlib.Core.Bool.{Bool, true, false, _&&_}
+use mathlib.Core.Bool.{Bool, true, false, cond, _&&_, and-true}
 use mathlib.Core.List.{List}
 use Prim.Native.Nat.{ℕ, zero, suc, _+_, _≤_, _<_}
 use native.Mathlib.Numerals.{add-one}
 use native.Mathlib.Omega.{arith}
-use lib.Dec.{leb, eqb}
+use lib.Dec.{leb, ltb, eqb}
 use lib.ListN.{getD}
-use borrow.Author.Tests.{le-leb, lt-leb, eq-eqb, ne-eqb, leb-true, leb-false, eqb-true}
-use Rattle.laws.specs.Tests.{by-test}
+use borrow.Author.Tests.{le-leb, lt-leb, lt-ltb, le-ltb, eq-eqb, ne-eqb, leb-true, leb-false, eqb-true}
+use Rattle.laws.specs.Tests.{by-test, by-order}
 use Rattle.units.specs.declared.MilliVolts.{MilliVolts}
 use Rattle.refusals.specs.Answers.{answerOf}
 use Rattle.refusals.specs.Refusals.{given, first-map}
@@ -18,13 +18,24 @@ use Rattle.refusals.specs.declared.Verdict.the-variants.{Accepted, Refused}
 use Rattle.units.specs.Cells.{tenAtMost}
 use Rattle.sample.specs.Cells.{noVolts}
 use Rattle.sample.specs.declared.Sample.{Sample}
-use Rattle.pack_refusals.specs.Samples.{cellFits, cellsFit, sampleRefusals, sampleVerdict, temperaturesVerdict, commandRefusals, commandVerdict, exact-count}
+use Rattle.pack_refusals.specs.Samples.{cellFits, cellsFit, sampleRefusals, sampleVerdict, temperaturesVerdict, commandRefusals, commandVerdict, keptCell, exact-count}
 
--- One cell more.
-pub fits-next : (cells : List MilliVolts) (k : ℕ) (ok r : Bool) → ok ≡ cellsFit cells k → r ≡ (ok && cellFits (getD cells k noVolts))
-    → r ≡ cellsFit cells (k + 1)
-unfolding cellsFit
-fits-next cells k ok r e er = rw (add-one, er, e)
+-- How many of the first k entries are cells: with ten entries, `tenAtMost`.
+abbrev pub counted : ℕ → ℕ → ℕ
+counted count k = cond (ltb count k) count k
+
+-- Past the count they are as many as the count says.
+counted-past : (count k : ℕ) → count ≤ k → counted count k ≡ count
+counted-past count k h = by-order count k (λ l. rw (lt-ltb count k l)) (λ l. rw (le-ltb count k l) (omega arith))
+
+-- One entry more, read as it is kept: past the count it is 0, which fits.
+pub fits-next : (cells : List MilliVolts) (count k : ℕ) (v : MilliVolts) (ok r : Bool) → ok ≡ cellsFit cells (counted count k)
+    → v ≡ keptCell count k (getD cells k noVolts) → r ≡ (ok && cellFits v) → r ≡ cellsFit cells (counted count (k + 1))
+unfolding cellsFit keptCell
+fits-next cells count k v ok r e ev er =
+    by-order k count
+    (λ h. rw (er, ev, e, lt-ltb k count h, le-ltb count k (omega arith), le-ltb count (k + 1) (omega arith), add-one))
+    (λ h. rw (er, ev, e, le-ltb k count h, counted-past count k h, counted-past count (k + 1) (omega arith), and-true))
 
 -- The verdict on a command.
 module _ (c : ℕ) where

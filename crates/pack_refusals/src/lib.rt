@@ -10,7 +10,6 @@ use refusals::refused;
 use sample::Sample;
 use units::DeciKelvin;
 use units::MilliVolts;
-use units::ten_at_most;
 
 // One cell more that is no more than 6000 mV.
 fn cell_too(others: bool, v: MilliVolts) -> bool
@@ -22,15 +21,16 @@ fn cell_too(others: bool, v: MilliVolts) -> bool
     false
 }
 
+// All ten entries are asked: one past the count reads as 0, which fits.
 fn cells_fit(cells: [MilliVolts; 10], count: u8) -> bool
     ensures { λ r. ⌜ r ≡ cellsFit cells (tenAtMost count) ⌝ }
 {
-    let n = ten_at_most(count);
     let mut ok = true;
-    let mut i: usize = 0;
-    while i < n {
-        let v = cells[i];
-        ok = cell_too(ok, v);
+    let mut i: u8 = 0;
+    while i < 10 {
+        let v = cells[i as usize];
+        let k = kept_cell(count, i, v);
+        ok = cell_too(ok, k);
         i += 1;
     }
     ok

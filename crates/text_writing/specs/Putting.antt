@@ -157,3 +157,36 @@ room-left size at count h =
     by-test (leb at (size - count))
     (λ t. let k = leb-true at (size - count) t in t ∙ sym (le-leb (at + count) size (omega arith)))
     (λ t. let k = leb-false at (size - count) t in t ∙ sym (lt-leb (at + count) size (omega arith)))
+
+-- ---- the last three digits at once
+
+module _ (v : ℕ) (h : 1000 ≤ v) where
+  -- a number of four digits or more is the text of its thousands, and the digits of its hundreds, its tens and its ones
+  decimal-thousands : decimal v ≡ ((decimal (v / 1000) ++ ((48 + v / 100 % 10) ∷ [])) ++ ((48 + v / 10 % 10) ∷ [])) ++ ((48 + v % 10) ∷ [])
+  decimal-thousands =
+      let tens : decimal (v / 10) ≡ decimal (v / 100) ++ ((48 + v / 10 % 10) ∷ []) =
+      decimal-tens (v / 10) (omega arith) ∙ ap (λ (w : ℕ). decimal w ++ ((48 + v / 10 % 10) ∷ [])) (omega arith) in
+      let hundreds : decimal (v / 100) ≡ decimal (v / 1000) ++ ((48 + v / 100 % 10) ∷ []) =
+      decimal-tens (v / 100) (omega arith) ∙ ap (λ (w : ℕ). decimal w ++ ((48 + v / 100 % 10) ∷ [])) (omega arith) in
+      decimal-tens v (omega arith) ∙ rw (tens, hundreds)
+
+  pub length-thousands : length (decimal v) ≡ length (decimal (v / 1000)) + 3
+  length-thousands = rw (decimal-thousands, length-append, length-append, length-append) (omega arith)
+
+  module _ {d : List ℕ} {at : ℕ} {r : ℕ} {e : List ℕ} (k : at + length (decimal v) ≤ length d) (p : Put d at (decimal (v / 1000)) r e) where
+    -- the three have room behind the thousands,
+    pub thousands-room : r + 3 ≤ length e
+    thousands-room = let n = length-thousands in let z = put-place p (omega arith) in let l = put-length p in omega arith
+
+    -- and stored there they make the text whole
+    pub thousands-put : Put d at (decimal v) (r + 3) (set (set (set e r (48 + v / 100 % 10)) (r + 1) (48 + v / 10 % 10)) (r + 2) (48 + v % 10))
+    thousands-put =
+        let n = length-thousands in
+        let m = thousands-room in
+        let q = put-then (omega arith) p (put-single e r (48 + v / 100 % 10) (omega arith)) in
+        let q' = put-then (rw length-append (omega arith)) q (put-single _ (r + 1) (48 + v / 10 % 10) (rw length-set (omega arith))) in
+        let q'' = put-then (rw (length-append, length-append) (omega arith)) q'
+        (put-single _ (r + 1 + 1) (48 + v % 10) (rw (length-set, length-set) (omega arith))) in
+        let two : r + 1 + 1 ≡ r + 2 = omega arith in
+        let three : r + 2 + 1 ≡ r + 3 = omega arith in
+        rw decimal-thousands (rw (two, three) at q'')

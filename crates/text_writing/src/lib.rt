@@ -138,6 +138,22 @@ pub fn put_decimal(out: &mut [u8], at: usize, v: u32) -> usize
     at
 }
 
+// Puts the decimal text of `v` at `at`, where it has room, and answers the place behind it: the last three digits of a long number are
+// put at once.
+fn put_long_in(out: &mut [u8], at: usize, v: u32) -> usize
+    requires { ⌜ at + length (decimal v) ≤ length (now out) ⌝ }
+    ensures { λ r. ⌜ Put (now (out .entry)) at (decimal v) r (now (out .exit)) ⌝ }
+{
+    if v < 1000 {
+        return put_decimal_in(out, at, v);
+    }
+    let e = put_decimal_in(out, at, v / 1000);
+    out[e] = (ZERO + v / 100 % 10) as u8;
+    out[e + 1] = (ZERO + v / 10 % 10) as u8;
+    out[e + 2] = (ZERO + v % 10) as u8;
+    e + 3
+}
+
 // ---- a row
 
 // The bytes of the longest row: a number of 32 bits, four of 16, and the byte behind each.
@@ -157,7 +173,8 @@ fn put_front(out: &mut [u8], at: usize, first: u32, second: u16, third: u16) -> 
     ensures { λ r. ⌜ Put (now (out .entry)) at (frontText first second third) r (now (out .exit)) ⌝ }
     ensures { λ _. ⌜ length (frontText first second third) ≤ 23 ⌝ }
 {
-    let e = put_field(out, at, first, b'\t');
+    let d = put_long_in(out, at, first);
+    let e = put_byte_in(out, d, b'\t');
     let f = put_field(out, e, second as u32, b'\t');
     put_field(out, f, third as u32, b'\t')
 }
