@@ -1,6 +1,8 @@
 -- To be believed: the check byte as the remainder of a polynomial.
 pub mod CheckByte
--- The table of sixteen entries, and its rule.
-pub mod Halves
 -- Document 01's three check bytes, computed.
 pub mod Vectors
+-- One byte more.
+pub mod Next
+-- The table of sixteen entries, and its rule.
+pub mod Halves

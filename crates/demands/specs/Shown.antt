@@ -120,6 +120,16 @@ samples-command bytes es c = either (accepts (commandVerdict c))
     either true = refl
     either false = refl
 
+-- One is shown for each accepted sample, and none for a refused one or a command.
+pub shown-each : (bytes : List ℕ) (es : List Event) → length (shownWords bytes es) ≡ length (samples bytes es)
+unfolding pastOf
+shown-each bytes [] = refl
+shown-each bytes (offer s ∷ es) =
+    by-test (accepts (sampleVerdict (pageOf bytes .rules .n) s))
+    (λ t. rw (verdict-is bytes es s, t) (ap suc (shown-each bytes es) ∙ sym (ap length (behind bytes es s true t))))
+    (λ t. rw (verdict-is bytes es s, t) (shown-each bytes es ∙ sym (ap length (behind bytes es s false t))))
+shown-each bytes (command c ∷ es) = shown-each bytes es ∙ sym (ap length (samples-command bytes es c))
+
 -- The balance fields shown at the accepted samples are the bled words of the history.
 pub shown-words : (bytes : List ℕ) (es : List Event) → shownWords bytes es ≡ bledWordsAfter (pageOf bytes) (samples bytes es)
 unfolding pastOf
@@ -133,14 +143,6 @@ shown-words bytes (offer s ∷ es) =
     ∙ sym (ap (bledWordsAfter (pageOf bytes)) e)))
     (λ t. rw (verdict-is bytes es s, t) (shown-words bytes es ∙ sym (ap (bledWordsAfter (pageOf bytes)) (behind bytes es s false t))))
 shown-words bytes (command c ∷ es) = shown-words bytes es ∙ sym (ap (bledWordsAfter (pageOf bytes)) (samples-command bytes es c))
-
-words-each : (page : Settings) (h : List Sample) → length (bledWordsAfter page h) ≡ length h
-words-each page [] = refl
-words-each page (s ∷ h) = ap suc (words-each page h)
-
--- One is shown for each accepted sample.
-pub shown-each : (bytes : List ℕ) (es : List Event) → length (shownWords bytes es) ≡ length (samples bytes es)
-shown-each bytes es = ap length (shown-words bytes es) ∙ words-each (pageOf bytes) (samples bytes es)
 
 -- ---- the words of the page
 

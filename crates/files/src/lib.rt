@@ -57,14 +57,12 @@ pub fn open(name: &[u8]) -> i32 {
     fd
 }
 
-// One read behind the bytes that are held. A buffer that has not so many is filled with nothing.
-pub fn read_on(name: &[u8], fd: i32, buf: &mut [u8], held: usize) -> Got
+// One read behind the bytes that are held.
+fn read_on(name: &[u8], fd: i32, buf: &mut [u8], held: usize) -> Got
+    requires { ⌜ held ≤ length (now buf) ⌝ }
     ensures { λ r. ⌜ r .n ≤ length (now (buf .entry)) ⌝ }
     ensures { λ r. ⌜ (held ≤ length (now (buf .entry)) → held ≤ r .n) ⌝ }
 {
-    if buf.len() < held {
-        return Got { ok: false, n: 0 };
-    }
     let part = &mut buf[held..];
     let got = libc::read(fd, part);
     let n = io::count(got, part);
@@ -100,32 +98,26 @@ pub fn read_more(name: &[u8], fd: i32, done: bool, buf: &mut [u8], held: usize) 
     ensures { λ r. ⌜ (r .ended ≡ true → (done ≡ true) × (r .have ≡ held)) ⌝ }
 {
     if done {
-        if buf.len() <= held {
-            say(name, b": no room for a line\n");
+        if held < buf.len() {
+            let got = read_on(name, fd, buf, held);
             return More {
-                ok: false,
-                ended: false,
-                have: 0,
+                ok: got.ok,
+                ended: got.n == held,
+                have: got.n,
             };
         }
-        let got = read_on(name, fd, buf, held);
+    } else if held <= buf.len() {
         return More {
-            ok: got.ok,
-            ended: got.n == held,
-            have: got.n,
-        };
-    }
-    if buf.len() < held {
-        return More {
-            ok: false,
+            ok: true,
             ended: false,
-            have: 0,
+            have: held,
         };
     }
+    say(name, b": no room for a line\n");
     More {
-        ok: true,
+        ok: false,
         ended: false,
-        have: held,
+        have: 0,
     }
 }
 

@@ -8,7 +8,7 @@ use lib.Dec.{eqb, ltb}
 use Rattle.laws.specs.Bits.{hasBit, withBit, withBitIf}
 use Rattle.laws.specs.Words.{bitsOf, anyOf}
 use Rattle.laws.specs.Latest.{nextRun, lastAll, among, run}
-use Rattle.laws.specs.Each.{eachTo}
+use Rattle.laws.specs.Each.{eachTo, eachFrom}
 use Rattle.laws.specs.Numbered.{listFrom, listOf}
 
 -- The lowest and the highest bit of a word, a bit beside a set one, and the bit past the word.
@@ -52,3 +52,9 @@ counted = refl
 stepped : eachTo 0 _+_ 2 (10 ∷ 20 ∷ 30 ∷ []) ∷ eachTo 0 _+_ 3 (10 ∷ 20 ∷ 30 ∷ []) ∷ listOf (_+_ 5) 3 ∷ [] ≡ (10 ∷ 21 ∷ 30 ∷ []) ∷ (10 ∷ 21 ∷ 32 ∷ []) ∷ (5 ∷ 6 ∷ 7 ∷ []) ∷ []
 unfolding eachTo listOf listFrom
 stepped = refl
+
+-- Entries from one number on are stepped, as many as are asked for: neither the one before them nor the one behind them is.
+stepped-from : eachFrom 0 _+_ 1 2 (10 ∷ 20 ∷ 30 ∷ 40 ∷ []) ∷ eachFrom 0 _+_ 2 0 (10 ∷ 20 ∷ 30 ∷ 40 ∷ []) ∷ eachFrom 0 _+_ 3 1 (10 ∷ 20 ∷ 30 ∷ 40 ∷ []) ∷ []
+    ≡ (10 ∷ 21 ∷ 32 ∷ 40 ∷ []) ∷ (10 ∷ 20 ∷ 30 ∷ 40 ∷ []) ∷ (10 ∷ 20 ∷ 30 ∷ 43 ∷ []) ∷ []
+unfolding eachFrom
+stepped-from = refl

@@ -3,9 +3,10 @@
 -- Assumes nothing.
 use mathlib.Core.Path.{_≡_, refl}
 use mathlib.Core.Bool.{true, false}
-use mathlib.Core.List.{List, [], _∷_, map}
+use mathlib.Core.List.{List, [], _∷_, _++_, map}
 use Prim.Native.Nat.{ℕ}
 use lib.IntN.{pos}
+use lib.ListN.{take, drop}
 use Rattle.laws.specs.Bits.{hasBit, withBit, withBitIf}
 use Rattle.laws.specs.Each.{eachTo}
 use Rattle.laws.specs.Latest.{nextRun}
@@ -14,7 +15,7 @@ use Rattle.laws.specs.Words.{bitsOf, anyOf}
 use Rattle.protections.specs.Table.{rowAt, table}
 use Rattle.sample.specs.Cells.{bestOf, extremesOf}
 use Rattle.sample.specs.Measure.{measure}
-use Rattle.sample.specs.Cases.{belowZero, sampled}
+use Rattle.sample.specs.Cases.{sampled}
 use Rattle.sample.specs.declared.Sample.{Sample}
 use Rattle.guard.specs.Cases.{limited}
 use Rattle.guard.specs.Steps.{raised, protectionAfter, protectionsAfter, stepOne, stepAt, stepAll}
@@ -27,6 +28,7 @@ use Rattle.bleed.specs.Walk.Steps.{isCell, chosenWord}
 use Rattle.bleed.specs.Walk.Word.{withCellIf}
 use Rattle.bleed.specs.Walk.Balance.{bledWordAfter}
 use Rattle.page_settings.specs.declared.Settings.{Settings}
+use Rattle.page_settings.specs.Cases.{rulesFor, worked}
 use Rattle.pack_state.specs.declared.Balance.{Balance}
 use Rattle.pack_state.specs.declared.Pack.{Pack}
 use Rattle.pack_state.specs.State.{wishAt, wishesAfter, restedAfter, bledAfter, balanceAfter, nextTick, freshBalance, nextBalance, wantAt, acceptedPack, freshPack}
@@ -38,36 +40,13 @@ tick-wraps = refl
 
 -- ---- (*) "n 3, K 1, R 1. At samples 3 to 7 the wanting cells are {1,2}, {1,3}, {1,2}, {1,3}, {1,2}; none want earlier. Bled: 1, 3, 2, 3, 1."
 
+-- The worked page with n 3, K 1 and this for R.
 abbrev page : ℕ → Settings
-page r =
-    record {
-      rules = record {
-        n = 3;
-        k = 1;
-        r = r;
-        floor = record { 0 = 3900 };
-        difference = record { 0 = 10 };
-        detection = pos 500;
-        voltage = record { 0 = 4200 };
-        current = pos 1500;
-      };
-      limits =
-          limited (pos 4250) (pos 4150) 2 3 1
-          ∷ limited (pos 2500) (pos 2600) 2 3 2
-          ∷ limited (pos 5000) (pos 100) 2 3 1
-          ∷ limited (belowZero 5000) (belowZero 100) 2 3 2
-          ∷ limited (belowZero 9000) (belowZero 100) 2 3 3
-          ∷ limited (pos 3180) (pos 3130) 2 3 1
-          ∷ limited (pos 3330) (pos 3280) 2 3 2
-          ∷ limited (pos 3330) (pos 3280) 2 3 3
-          ∷ limited (pos 2731) (pos 2782) 2 3 1
-          ∷ limited (pos 2531) (pos 2582) 2 3 2
-          ∷ [];
-    }
+page r = record { rules = rulesFor 3 1 r; limits = worked .limits }
 
--- Charging with 500 mA, the detection current: cells of 4020 mV want bleeding beside one of 4000 mV.
+-- Charging with 100 mA, the detection current: cells of 4020 mV want bleeding beside one of 4000 mV.
 abbrev charged : ℕ → ℕ → ℕ → Sample
-charged a b c = sampled 3 (a ∷ b ∷ c ∷ 0 ∷ 0 ∷ 0 ∷ 0 ∷ 0 ∷ 0 ∷ 0 ∷ []) (pos 500) 2980 2980
+charged a b c = sampled 3 (a ∷ b ∷ c ∷ 0 ∷ 0 ∷ 0 ∷ 0 ∷ 0 ∷ 0 ∷ 0 ∷ []) (pos 100) 2980 2980
 
 -- The seven samples, the latest first.
 abbrev seven : List Sample
@@ -132,24 +111,9 @@ starred-made = refl
 
 -- ---- a protection of mask 0 only reports, and stops all bleeding while it is raised
 
--- The same page, but over charge current is raised by one sample of 400 mA or more and blocks no switch.
+-- The same page, but over charge current is raised by one sample of 80 mA or more and blocks no switch.
 abbrev reporting : Settings
-reporting =
-    record {
-      rules = page 1 .rules;
-      limits =
-          limited (pos 4250) (pos 4150) 2 3 1
-          ∷ limited (pos 2500) (pos 2600) 2 3 2
-          ∷ limited (pos 400) (pos 100) 1 1 0
-          ∷ limited (belowZero 5000) (belowZero 100) 2 3 2
-          ∷ limited (belowZero 9000) (belowZero 100) 2 3 3
-          ∷ limited (pos 3180) (pos 3130) 2 3 1
-          ∷ limited (pos 3330) (pos 3280) 2 3 2
-          ∷ limited (pos 3330) (pos 3280) 2 3 3
-          ∷ limited (pos 2731) (pos 2782) 2 3 1
-          ∷ limited (pos 2531) (pos 2582) 2 3 2
-          ∷ [];
-    }
+reporting = record { rules = page 1 .rules; limits = take 2 (worked .limits) ++ limited (pos 80) (pos 50) 1 1 0 ∷ drop 3 (worked .limits) }
 
 -- Who wants and who is bled at one sample at which cell 2 exceeds the others.
 pub mask-zero-said :

@@ -1,5 +1,6 @@
--- n 5, K 2 and R 3 in one page: cells 1, 3 and 5 always want, and what is kept after each of five samples is computed, from the history and
--- step by step. Each of the three numbers is read where it belongs: two cells are bled at a time, and one rests after three samples.
+-- The worked page with n 5, K 2 and R 3: cells 1, 3 and 5 always want, and what is kept after each of five samples is computed, from the
+-- history and step by step. Each of the three numbers is read where it belongs: two cells are bled at a time, and one rests after three
+-- samples.
 -- Assumes nothing.
 use mathlib.Core.Path.{_≡_, refl}
 use mathlib.Core.List.{List, [], _∷_}
@@ -14,9 +15,8 @@ use Rattle.laws.specs.Words.{bitsOf, anyOf}
 use Rattle.protections.specs.Table.{rowAt, table}
 use Rattle.sample.specs.Cells.{bestOf, extremesOf}
 use Rattle.sample.specs.Measure.{measure}
-use Rattle.sample.specs.Cases.{belowZero, sampled}
+use Rattle.sample.specs.Cases.{sampled}
 use Rattle.sample.specs.declared.Sample.{Sample}
-use Rattle.guard.specs.Cases.{limited}
 use Rattle.guard.specs.Steps.{raised, protectionAfter, protectionsAfter, stepOne, stepAt, stepAll}
 use Rattle.guard_raised.specs.Words.{anyRaised, anyRaisedAfter}
 use Rattle.bleed_wants.specs.Wants.{wants}
@@ -27,39 +27,16 @@ use Rattle.bleed.specs.Walk.Steps.{isCell, chosenWord}
 use Rattle.bleed.specs.Walk.Word.{withCellIf}
 use Rattle.bleed.specs.Walk.Balance.{runsAfter, bledWordAfter}
 use Rattle.page_settings.specs.declared.Settings.{Settings}
+use Rattle.page_settings.specs.Cases.{rulesFor, worked}
 use Rattle.pack_state.specs.declared.Balance.{Balance}
 use Rattle.pack_state.specs.declared.Pack.{Pack}
 use Rattle.pack_state.specs.State.{wishAt, wishesAfter, restedAfter, bledAfter, balanceAfter, freshBalance, nextBalance, wantAt, acceptedPack, freshPack}
 
 abbrev page : Settings
-page =
-    record {
-      rules = record {
-        n = 5;
-        k = 2;
-        r = 3;
-        floor = record { 0 = 3900 };
-        difference = record { 0 = 10 };
-        detection = pos 500;
-        voltage = record { 0 = 4200 };
-        current = pos 1500;
-      };
-      limits =
-          limited (pos 4250) (pos 4150) 2 3 1
-          ∷ limited (pos 2500) (pos 2600) 2 3 2
-          ∷ limited (pos 5000) (pos 100) 2 3 1
-          ∷ limited (belowZero 5000) (belowZero 100) 2 3 2
-          ∷ limited (belowZero 9000) (belowZero 100) 2 3 3
-          ∷ limited (pos 3180) (pos 3130) 2 3 1
-          ∷ limited (pos 3330) (pos 3280) 2 3 2
-          ∷ limited (pos 3330) (pos 3280) 2 3 3
-          ∷ limited (pos 2731) (pos 2782) 2 3 1
-          ∷ limited (pos 2631) (pos 2682) 2 3 2
-          ∷ [];
-    }
+page = record { rules = rulesFor 5 2 3; limits = worked .limits }
 
 abbrev five : List Sample
-five = replicate 5 (sampled 5 (4020 ∷ 4000 ∷ 4020 ∷ 4000 ∷ 4020 ∷ 0 ∷ 0 ∷ 0 ∷ 0 ∷ 0 ∷ []) (pos 500) 2980 2980)
+five = replicate 5 (sampled 5 (4020 ∷ 4000 ∷ 4020 ∷ 4000 ∷ 4020 ∷ 0 ∷ 0 ∷ 0 ∷ 0 ∷ 0 ∷ []) (pos 100) 2980 2980)
 
 -- The start cell, the words of who rested and who was bled, the next start cell, and the runs of cells 1 to 10.
 abbrev kept : Balance → List ℕ

@@ -61,18 +61,22 @@ levels-are = refl
 abbrev limits : ℤ → ℤ → ℕ → ℕ → ℕ → Limits
 limits trip release n m mask = record { trip = level trip; release = level release; n = n; m = m; mask = mask }
 
-abbrev pub workedRules : Rules
-workedRules =
+-- Its rules, with these for n, K and R.
+abbrev pub rulesFor : ℕ → ℕ → ℕ → Rules
+rulesFor n k r =
     record {
-      n = 2;
-      k = 1;
-      r = 4;
+      n = n;
+      k = k;
+      r = r;
       floor = record { 0 = 3900 };
       difference = record { 0 = 10 };
       detection = pos 100;
       voltage = record { 0 = 4200 };
       current = pos 1000;
     }
+
+abbrev pub workedRules : Rules
+workedRules = rulesFor 2 1 4
 
 abbrev pub worked : Settings
 worked =

@@ -1,4 +1,4 @@
--- `entries::no_entry` meets its contract. Assumes nothing.
+-- `log_entries::no_entry` meets its contract. Assumes nothing.
 use borrow.Author.Needs.{needs}
 use Rattle.log_entries.proofs.no_entry.Statement.{statement}
 use Rattle.log_entries.proofs.no_entry.Tie as tie

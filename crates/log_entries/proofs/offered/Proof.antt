@@ -1,4 +1,4 @@
--- `entries::offered` meets its contract. The loop's invariant: the first i cells are the numbers behind the two temperatures. Assumes nothing.
+-- `log_entries::offered` meets its contract. The loop's invariant: the first i cells are the numbers behind the two temperatures. Assumes nothing.
 use mir.Facts.{toZ-ofZ}
 use borrow.Kind.Array.{eInt, good-length}
 use mir.Syntax.{w16}

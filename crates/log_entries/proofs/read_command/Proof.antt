@@ -1,4 +1,4 @@
--- `entries::read_command` meets its contract. Assumes nothing.
+-- `log_entries::read_command` meets its contract. Assumes nothing.
 use Rattle.log_entries.specs.Reading.{command-read}
 use mathlib.Core.Path.{sym, ap, _∙_}
 use native.Mathlib.Omega.{arith}

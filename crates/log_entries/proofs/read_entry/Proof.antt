@@ -1,4 +1,4 @@
--- `entries::read_entry` meets its contract. Assumes nothing.
+-- `log_entries::read_entry` meets its contract. Assumes nothing.
 use mathlib.Core.Path.{sym, _∙_}
 use native.Mathlib.Omega.{arith}
 use borrow.Author.Tests.{ne-eqb}

@@ -1,4 +1,4 @@
--- `entries::read_numbers` meets its contract. The loop keeps: the fields from `at` on, behind the `count` numbers read so far, say what all
+-- `log_entries::read_numbers` meets its contract. The loop keeps: the fields from `at` on, behind the `count` numbers read so far, say what all
 -- the fields from `from` on say. Assumes nothing.
 use mathlib.Core.Path.{_≡_, refl, sym, ap, _∙_}
 use Prim.Native.Nat.{_≤_, _+_, _-_}

@@ -1,4 +1,4 @@
--- `entries::read_sample` meets its contract: the fields are read behind the minus that may stand there. Assumes nothing.
+-- `log_entries::read_sample` meets its contract: the fields are read behind the minus that may stand there. Assumes nothing.
 use mathlib.Core.Path.{sym, _∙_}
 use Rattle.log_entries.specs.InTurn.{sample-start}
 use borrow.Author.Needs.{needs}

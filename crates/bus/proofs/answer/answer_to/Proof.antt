@@ -1,4 +1,4 @@
--- `bus::answer_to` meets its contract. Assumes nothing.
+-- `bus::answer::answer_to` meets its contract. Assumes nothing.
 use borrow.Author.Tests.{eq-eqb, ne-eqb}
 use Rattle.bus.specs.Replies.{answerTo, answerFor, replyRefusals, answer-given}
 use borrow.Author.Needs.{needs}

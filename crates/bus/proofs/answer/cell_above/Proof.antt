@@ -1,4 +1,4 @@
--- `bus::cell_above` meets its contract. Assumes nothing.
+-- `bus::answer::cell_above` meets its contract. Assumes nothing.
 use Rattle.bus.specs.Replies.{cellAbove}
 use borrow.Author.Needs.{needs}
 use Rattle.bus.proofs.answer.cell_above.Statement.{statement}

@@ -1,4 +1,4 @@
--- `bus::frame` meets its contract. Assumes nothing.
+-- `bus::answer::frame` meets its contract. Assumes nothing.
 use Rattle.bus.specs.Replies.{frameOf}
 use borrow.Author.Needs.{needs}
 use Rattle.bus.proofs.answer.frame.Statement.{statement}

@@ -1,4 +1,4 @@
--- `bus::not_in_table` meets its contract. Assumes nothing.
+-- `bus::answer::not_in_table` meets its contract. Assumes nothing.
 use Rattle.bus.specs.Replies.{notInTable}
 use borrow.Author.Needs.{needs}
 use Rattle.bus.proofs.answer.not_in_table.Statement.{statement}

@@ -1,4 +1,4 @@
--- `bus::put` meets its contract. Assumes nothing.
+-- `bus::reply::put` meets its contract. Assumes nothing.
 use lib.ListN.{length-set}
 use native.Mathlib.Omega.{arith}
 use Rattle.bus.specs.Replies.{three-put}

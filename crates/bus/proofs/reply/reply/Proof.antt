@@ -1,4 +1,4 @@
--- `bus::reply` meets its contract. Assumes nothing.
+-- `bus::reply::reply` meets its contract. Assumes nothing.
 use Rattle.bus.specs.Replies.{answerTo, bufferOf, sent-room}
 use mathlib.Core.Path.{sym, _∙_}
 use borrow.Author.Needs.{needs}
