@@ -5,7 +5,7 @@ use mathlib.Core.List.{[], _∷_}
 use Rattle.text_fields.specs.Quoted.{quoted}
 use Rattle.text_fields.specs.Finding.{before}
 use Rattle.text_numbers.specs.Numbers.{numberTo, digitsTo}
-use Rattle.text_number_at.specs.Four.{together, allDigits, valued}
+use Rattle.text_number_at.specs.Four.{together, spellsFour, valued}
 use Rattle.text_number_at.specs.NumberAt.{numberAt, fourAt, fourLeft}
 use Rattle.text_number_at.specs.Along.{numberAlong, endsField, fourEnded}
 use Rattle.text_number_at.specs.declared.FieldNumber.the-variants.{Value, Malformed}
@@ -32,12 +32,13 @@ pub whole-fours : (fourLeft (quoted "1234") 0 ≡ true) × (fourLeft (quoted "12
     × (fourLeft (49 ∷ 50 ∷ 51 ∷ 52 ∷ 8 ∷ []) 0 ≡ false) × (fourLeft (49 ∷ 50 ∷ 51 ∷ 52 ∷ 10 ∷ []) 0 ≡ false)
 whole-fours = (refl, refl, refl, refl, refl, refl, refl, refl)
 
--- four digits at once: they pass up to 9, ten does not at any of the four places, nor does what stands for a letter
-pub pass : (allDigits (together 1 2 3 4) ≡ true) × (allDigits (together 9 9 9 9) ≡ true) × (allDigits (together 10 2 3 4) ≡ false)
-    × (allDigits (together 1 10 3 4) ≡ false) × (allDigits (together 1 2 10 4) ≡ false) × (allDigits (together 1 2 3 10) ≡ false)
-    × (allDigits (together 1 2 3 72) ≡ false) × (allDigits (together 138 2 3 4) ≡ false)
-unfolding allDigits
-pass = (refl, refl, refl, refl, refl, refl, refl, refl)
+-- four digits at once: they pass up to 9, ten does not at any of the four places, nor does what stands for a letter, nor a 0 that comes first
+pub pass : (spellsFour (together 1 2 3 4) ≡ true) × (spellsFour (together 9 9 9 9) ≡ true) × (spellsFour (together 10 2 3 4) ≡ false)
+    × (spellsFour (together 1 10 3 4) ≡ false) × (spellsFour (together 1 2 10 4) ≡ false) × (spellsFour (together 1 2 3 10) ≡ false)
+    × (spellsFour (together 1 2 3 72) ≡ false) × (spellsFour (together 138 2 3 4) ≡ false)
+    × (spellsFour (together 0 2 3 4) ≡ false) × (spellsFour (together 1 0 0 0) ≡ true) × (spellsFour (together 0 0 0 0) ≡ false)
+unfolding spellsFour
+pass = (refl, refl, refl, refl, refl, refl, refl, refl, refl, refl, refl)
 
 -- and what they spell
 pub spell : (valued (together 1 2 3 4) ≡ 1234) × (valued (together 9 9 9 9) ≡ 9999)

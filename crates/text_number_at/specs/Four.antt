@@ -1,6 +1,6 @@
 -- Four bytes held in one number: a test of all four at once, and the number that they spell.
 use Prim.Native.Nat.{ℕ, zero, suc, _+_, _*_, _/_, _%_, _<_, _≤_}
-use mathlib.Core.Path.{_≡_, refl, sym, ap, _∙_}
+use mathlib.Core.Path.{_≡_, refl, sym, ap, ap₂, _∙_}
 use mathlib.Core.Bool.{Bool, true, not, _&&_, _||_}
 use mathlib.Core.Logic.{⊎-elim}
 use native.Mathlib.Nat.{not-suc-le-zero, eq-or-lt-of-le, le-of-suc-le-suc}
@@ -14,9 +14,9 @@ use Rattle.laws.specs.Tests.{and-left, and-right}
 abbrev pub together : ℕ → ℕ → ℕ → ℕ → ℕ
 together a b c d = a + 256 * b + 65536 * c + 16777216 * d
 
--- the test of the code
-unfoldable pub allDigits : ℕ → Bool
-allDigits x = eqb (bitAnd (bitOr (x + 0x76767676) x) 0x80808080) 0
+-- the test of the code: 0xFFFFFFFF more is 1 less, in 32 bits
+unfoldable pub spellsFour : ℕ → Bool
+spellsFour x = eqb (bitAnd (bitOr (x + 0x76767676) (x + 0xFFFFFFFF)) 0x80808080) 0
 
 -- the number that the code makes of four digits
 unfoldable pub valued : ℕ → ℕ
@@ -54,6 +54,24 @@ quietRule r = not (quiet r) || leb r 9
 quiet-table : allBelow 256 quietRule ≡ true
 quiet-table = refl
 
+-- the same for the first byte, from which 1 is taken: it passes for 1 to 9
+abbrev quietFirst : ℕ → Bool
+quietFirst r = eqb (bitAnd (bitOr ((r + 118) % 256) ((r + 255) % 256)) 128) 0
+
+firstRule : ℕ → Bool
+firstRule r = not (quietFirst r) || (leb 1 r && leb r 9)
+
+first-table : allBelow 256 firstRule ≡ true
+unfolding firstRule
+first-table = refl
+
+first-nine : (r : ℕ) → r < 256 → bitAnd (bitOr ((r + 118) % 256) ((r + 255) % 256)) 128 ≡ 0 → (1 ≤ r) × (r ≤ 9)
+unfolding firstRule
+first-nine r h e =
+    let t : quietFirst r ≡ true = eq-eqb (bitAnd (bitOr ((r + 118) % 256) ((r + 255) % 256)) 128) 0 e in
+    let q : leb 1 r && leb r 9 ≡ true = rw t at (all-at 256 firstRule first-table r h) in
+    (leb-true 1 r (and-left (leb 1 r) (leb r 9) q), leb-true r 9 (and-right (leb 1 r) (leb r 9) q))
+
 quiet-nine : (r : ℕ) → r < 256 → bitAnd (bitOr ((r + 118) % 256) r) 128 ≡ 0 → r ≤ 9
 quiet-nine r h e =
     let t : quiet r ≡ true = eq-eqb (bitAnd (bitOr ((r + 118) % 256) r) 128) 0 e in
@@ -73,35 +91,64 @@ digit-is r h e =
 
 -- ---- the lowest byte, and the rest
 
--- the test of a number passes only if its lowest byte does and the rest does, to which nothing was carried
-step : (X S M r : ℕ) → r < 256 → bitAnd (bitOr (X * 256 + r + (S * 256 + 118)) (X * 256 + r)) (M * 256 + 128) ≡ 0
-    → (r ≤ 9) × (bitAnd (bitOr (X + S) X) M ≡ 0)
-step X S M r h e =
+-- the test of a number passes only if its lowest byte does and the rest does, to which nothing was carried; T is what the byte before has left
+step : (X S T M r : ℕ) → r < 256 → bitAnd (bitOr (X * 256 + r + (S * 256 + 118)) (X * 256 + r + T * 256)) (M * 256 + 128) ≡ 0
+    → (r ≤ 9) × (bitAnd (bitOr (X + S) (X + T)) M ≡ 0)
+step X S T M r h e =
     let carry : ℕ = (r + 118) / 256 in
     let low : ℕ = (r + 118) % 256 in
     let sum : X * 256 + r + (S * 256 + 118) ≡ (X + S + carry) * 256 + low = omega arith in
+    let rest : X * 256 + r + T * 256 ≡ (X + T) * 256 + r = omega arith in
     let small : low < 256 = omega arith in
-    let cut : bitAnd (bitOr (X * 256 + r + (S * 256 + 118)) (X * 256 + r)) (M * 256 + 128)
-    ≡ bitAnd (bitOr (X + S + carry) X) M * 256 + bitAnd (bitOr low r) 128 =
-    ap (λ (y : ℕ). bitAnd (bitOr y (X * 256 + r)) (M * 256 + 128)) sum
-    ∙ ap (λ (y : ℕ). bitAnd y (M * 256 + 128)) (or-block 8 (X + S + carry) X low r small h)
-    ∙ and-block 8 (bitOr (X + S + carry) X) M (bitOr low r) 128 (or-lt 8 low r small h) (lit< tt) in
-    let both : bitAnd (bitOr (X + S + carry) X) M * 256 + bitAnd (bitOr low r) 128 ≡ 0 = sym cut ∙ e in
+    let cut : bitAnd (bitOr (X * 256 + r + (S * 256 + 118)) (X * 256 + r + T * 256)) (M * 256 + 128)
+    ≡ bitAnd (bitOr (X + S + carry) (X + T)) M * 256 + bitAnd (bitOr low r) 128 =
+    ap₂ (λ (y z : ℕ). bitAnd (bitOr y z) (M * 256 + 128)) sum rest
+    ∙ ap (λ (y : ℕ). bitAnd y (M * 256 + 128)) (or-block 8 (X + S + carry) (X + T) low r small h)
+    ∙ and-block 8 (bitOr (X + S + carry) (X + T)) M (bitOr low r) 128 (or-lt 8 low r small h) (lit< tt) in
+    let both : bitAnd (bitOr (X + S + carry) (X + T)) M * 256 + bitAnd (bitOr low r) 128 ≡ 0 = sym cut ∙ e in
     let nine : r ≤ 9 = quiet-nine r h (omega arith) in
     let none : X + S + carry ≡ X + S = omega arith in
-    (nine, ap (λ (y : ℕ). bitAnd (bitOr y X) M) (sym none) ∙ omega arith)
+    (nine, ap (λ (y : ℕ). bitAnd (bitOr y (X + T)) M) (sym none) ∙ omega arith)
 
--- four bytes that pass together are 9 at most, each of them
+-- the first byte: 1 is taken from it, and 1 more carried to the rest
+first-step : (X S U M r : ℕ) → r < 256 → bitAnd (bitOr (X * 256 + r + (S * 256 + 118)) (X * 256 + r + (U * 256 + 255))) (M * 256 + 128) ≡ 0
+    → (1 ≤ r) × (r ≤ 9) × (bitAnd (bitOr (X + S) (X + (U + 1))) M ≡ 0)
+first-step X S U M r h e =
+    let carry : ℕ = (r + 118) / 256 in
+    let low : ℕ = (r + 118) % 256 in
+    let more : ℕ = (r + 255) / 256 in
+    let less : ℕ = (r + 255) % 256 in
+    let sum : X * 256 + r + (S * 256 + 118) ≡ (X + S + carry) * 256 + low = omega arith in
+    let rest : X * 256 + r + (U * 256 + 255) ≡ (X + U + more) * 256 + less = omega arith in
+    let small : low < 256 = omega arith in
+    let small′ : less < 256 = omega arith in
+    let cut : bitAnd (bitOr (X * 256 + r + (S * 256 + 118)) (X * 256 + r + (U * 256 + 255))) (M * 256 + 128)
+    ≡ bitAnd (bitOr (X + S + carry) (X + U + more)) M * 256 + bitAnd (bitOr low less) 128 =
+    ap₂ (λ (y z : ℕ). bitAnd (bitOr y z) (M * 256 + 128)) sum rest
+    ∙ ap (λ (y : ℕ). bitAnd y (M * 256 + 128)) (or-block 8 (X + S + carry) (X + U + more) low less small small′)
+    ∙ and-block 8 (bitOr (X + S + carry) (X + U + more)) M (bitOr low less) 128 (or-lt 8 low less small small′) (lit< tt) in
+    let both : bitAnd (bitOr (X + S + carry) (X + U + more)) M * 256 + bitAnd (bitOr low less) 128 ≡ 0 = sym cut ∙ e in
+    let nine : (1 ≤ r) × (r ≤ 9) = first-nine r h (omega arith) in
+    let least : 1 ≤ r = nine .0 in
+    let most : r ≤ 9 = nine .1 in
+    let none : X + S + carry ≡ X + S = omega arith in
+    let one : X + U + more ≡ X + (U + 1) = omega arith in
+    (least, most, ap₂ (λ (y z : ℕ). bitAnd (bitOr y z) M) (sym none) (sym one) ∙ omega arith)
+
+-- four bytes that pass together are 9 at most, each of them, and the first is not 0
 four-pass : (a b c d : ℕ) → a < 256 → b < 256 → c < 256 → d < 256
-    → bitAnd (bitOr (together a b c d + 0x76767676) (together a b c d)) 0x80808080 ≡ 0 → (a ≤ 9) × (b ≤ 9) × (c ≤ 9) × (d ≤ 9)
+    → bitAnd (bitOr (together a b c d + 0x76767676) (together a b c d + 0xFFFFFFFF)) 0x80808080 ≡ 0
+    → (1 ≤ a) × (a ≤ 9) × (b ≤ 9) × (c ≤ 9) × (d ≤ 9)
 four-pass a b c d ha hb hc hd e =
     let w : together a b c d ≡ ((d * 256 + c) * 256 + b) * 256 + a = omega arith in
-    let first = step ((d * 256 + c) * 256 + b) 0x767676 0x808080 a ha (ap (λ (x : ℕ). bitAnd (bitOr (x + 0x76767676) x) 0x80808080) (sym w) ∙ e) in
-    let second = step (d * 256 + c) 0x7676 0x8080 b hb (first .1) in
-    let third = step d 0x76 0x80 c hc (second .1) in
+    let first =
+    first-step ((d * 256 + c) * 256 + b) 0x767676 0xFFFFFF 0x808080 a ha
+    (ap (λ (x : ℕ). bitAnd (bitOr (x + 0x76767676) (x + 0xFFFFFFFF)) 0x80808080) (sym w) ∙ e) in
+    let second = step (d * 256 + c) 0x7676 0x10000 0x8080 b hb (first .2) in
+    let third = step d 0x76 0x100 0x80 c hc (second .1) in
     let alone : 0 * 256 + d ≡ d = omega arith in
-    let fourth = step 0 0 0 d hd (ap (λ (x : ℕ). bitAnd (bitOr (x + 118) x) 128) alone ∙ third .1) in
-    (first .0, second .0, third .0, fourth .0)
+    let fourth = step 0 0 1 0 d hd (ap (λ (x : ℕ). bitAnd (bitOr (x + 118) (x + 256)) 128) alone ∙ third .1) in
+    (first .0, first .1, second .0, third .0, fourth .0)
 
 -- exclusive or goes byte by byte
 apart : (a b c d : ℕ) → a < 256 → b < 256 → c < 256 → d < 256
@@ -146,47 +193,44 @@ module _ (a b c d x : ℕ) (ha : a < 256) (hb : b < 256) (hc : c < 256) (hd : d 
   digits : x ≡ together (bitXor a 48) (bitXor b 48) (bitXor c 48) (bitXor d 48)
   digits = ex ∙ apart a b c d ha hb hc hd
 
-  module _ (t : allDigits x ≡ true) where
-    each-nine : (bitXor a 48 ≤ 9) × (bitXor b 48 ≤ 9) × (bitXor c 48 ≤ 9) × (bitXor d 48 ≤ 9)
-    unfolding allDigits
+  module _ (t : spellsFour x ≡ true) where
+    each-nine : (1 ≤ bitXor a 48) × (bitXor a 48 ≤ 9) × (bitXor b 48 ≤ 9) × (bitXor c 48 ≤ 9) × (bitXor d 48 ≤ 9)
+    unfolding spellsFour
     each-nine =
         four-pass (bitXor a 48) (bitXor b 48) (bitXor c 48) (bitXor d 48)
         (xor-lt 8 a 48 ha (lit< tt)) (xor-lt 8 b 48 hb (lit< tt)) (xor-lt 8 c 48 hc (lit< tt)) (xor-lt 8 d 48 hd (lit< tt))
-        (ap (λ (y : ℕ). bitAnd (bitOr (y + 0x76767676) y) 0x80808080) (sym digits) ∙ eqb-true (bitAnd (bitOr (x + 0x76767676) x) 0x80808080) 0 t)
+        (ap (λ (y : ℕ). bitAnd (bitOr (y + 0x76767676) (y + 0xFFFFFFFF)) 0x80808080) (sym digits)
+        ∙ eqb-true (bitAnd (bitOr (x + 0x76767676) (x + 0xFFFFFFFF)) 0x80808080) 0 t)
 
     -- so x is small, and what is made of it wraps nowhere
     pub nine-most : x ≤ 0x09090909
     nine-most =
         let n = each-nine in
-        let n0 = n .0 in let n1 = n .1 in let n2 = n .2 in let n3 = n .3 in let e = digits in omega arith
+        let n0 = n .1 in let n1 = n .2 in let n2 = n .3 in let n3 = n .4 in let e = digits in omega arith
 
-    pub spelt-is : (v : ℕ) → (x % 256 ≡ 0 → ⊥) → v ≡ valued x → Spelt a b c d v
-    spelt-is v n ev =
+    pub spelt-is : (v : ℕ) → v ≡ valued x → Spelt a b c d v
+    spelt-is v ev =
         let A : ℕ = bitXor a 48 in
         let B : ℕ = bitXor b 48 in
         let C : ℕ = bitXor c 48 in
         let D : ℕ = bitXor d 48 in
         let nine = each-nine in
-        let da : a ≡ A + 48 = digit-is a ha (nine .0) in
-        let db : b ≡ B + 48 = digit-is b hb (nine .1) in
-        let dc : c ≡ C + 48 = digit-is c hc (nine .2) in
-        let dd : d ≡ D + 48 = digit-is d hd (nine .3) in
-        let low : x % 256 ≡ A = ap (λ (y : ℕ). y % 256) digits ∙ lowest A B C D (nine .0) in
+        let da : a ≡ A + 48 = digit-is a ha (nine .1) in
+        let db : b ≡ B + 48 = digit-is b hb (nine .2) in
+        let dc : c ≡ C + 48 = digit-is c hc (nine .3) in
+        let dd : d ≡ D + 48 = digit-is d hd (nine .4) in
         record {
-          first = in-range-first a A da (nine .0) (λ z. n (low ∙ z));
-          second = in-range b B db (nine .1);
-          third = in-range c C dc (nine .2);
-          fourth = in-range d D dd (nine .3);
-          is = in-all a b c d A B C D v da db dc dd (ev ∙ pairs A B C D x (nine .0) (nine .1) (nine .2) (nine .3) digits);
+          first = in-range-first a A da (nine .1) (nine .0);
+          second = in-range b B db (nine .2);
+          third = in-range c C dc (nine .3);
+          fourth = in-range d D dd (nine .4);
+          is = in-all a b c d A B C D v da db dc dd (ev ∙ pairs A B C D x (nine .1) (nine .2) (nine .3) (nine .4) digits);
         }
       where
-        lowest : (A B C D : ℕ) → A ≤ 9 → together A B C D % 256 ≡ A
-        lowest A B C D h = omega arith
-
         in-range : (r A : ℕ) → r ≡ A + 48 → A ≤ 9 → (48 ≤ r) × (r ≤ 57)
         in-range r A e h = (omega arith, omega arith)
 
-        in-range-first : (r A : ℕ) → r ≡ A + 48 → A ≤ 9 → (A ≡ 0 → ⊥) → (49 ≤ r) × (r ≤ 57)
+        in-range-first : (r A : ℕ) → r ≡ A + 48 → A ≤ 9 → 1 ≤ A → (49 ≤ r) × (r ≤ 57)
         in-range-first r A e h n = (omega arith, omega arith)
 
         in-all : (a b c d A B C D v : ℕ) → a ≡ A + 48 → b ≡ B + 48 → c ≡ C + 48 → d ≡ D + 48 → v ≡ A * 1000 + B * 100 + C * 10 + D

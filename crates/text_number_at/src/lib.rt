@@ -6,7 +6,7 @@ ghost use Prim.Native.Nat.{_+_, _-_, _<_, _≤_};
 ghost use lib.ListN.{length};
 ghost use Rattle.text_numbers.specs.Numbers.{readNumber};
 ghost use Rattle.text_numbers.specs.declared.Number.the-variants.{Value};
-ghost use Rattle.text_number_at.specs.Four.{together, allDigits, valued};
+ghost use Rattle.text_number_at.specs.Four.{together, spellsFour, valued};
 ghost use Rattle.text_number_at.specs.NumberAt.{fourAt, fourLeft, numberAt};
 ghost use Rattle.text_number_at.specs.Along.{endAlong, endsField, fourEnded, numberAlong};
 use laws::wide;
@@ -27,12 +27,12 @@ fn together(a: u8, b: u8, c: u8, d: u8) -> u32
     wide(a) + 256 * wide(b) + 65536 * wide(c) + 16777216 * wide(d)
 }
 
-// Whether each of four bytes held so is 9 at most. A larger one has its highest bit set, or gets it with 118 more. What the last one carries
-// out is not looked at.
-fn all_digits(x: u32) -> bool
-    ensures { λ r. ⌜ r ≡ allDigits x ⌝ }
+// Whether each of four bytes held so is 9 at most, and the first is not 0. A larger one has its highest bit set, or gets it with 118 more; so
+// has 0 with 1 taken from it, which is 0xFFFFFFFF more in 32 bits. What the last one carries out is not looked at.
+fn spells_four(x: u32) -> bool
+    ensures { λ r. ⌜ r ≡ spellsFour x ⌝ }
 {
-    ((x as u64 + 0x76767676) | x as u64) & 0x80808080 == 0
+    ((x as u64 + 0x76767676) | (x as u64 + 0xFFFFFFFF)) & 0x80808080 == 0
 }
 
 // The number that four digits held so spell: two pairs at once, and the one behind the other.
@@ -55,13 +55,11 @@ fn four(a: u8, b: u8, c: u8, d: u8) -> FourRead
     ensures { λ r. ⌜ (r .spelt ≡ true → readNumber (a ∷ b ∷ c ∷ d ∷ []) ≡ Value (r .number)) ⌝ }
 {
     let x = together(a, b, c, d) ^ 0x30303030;
-    if all_digits(x) {
-        if x % 256 != 0 {
-            return FourRead {
-                spelt: true,
-                number: valued(x),
-            };
-        }
+    if spells_four(x) {
+        return FourRead {
+            spelt: true,
+            number: valued(x),
+        };
     }
     FourRead {
         spelt: false,
