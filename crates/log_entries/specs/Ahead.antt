@@ -2,7 +2,7 @@
 -- Assumes nothing.
 use Prim.Native.Nat.{ℕ, suc, _+_, _-_, _<_, _≤_}
 use mathlib.Core.Path.{_≡_, refl, sym, ap, _∙_}
-use mathlib.Core.Bool.{Bool, true, false, cond}
+use mathlib.Core.Bool.{Bool, true, false, cond, _&&_}
 use mathlib.Core.List.{List, [], _∷_, _++_}
 use mathlib.Core.Logic.{⊎-elim}
 use native.Mathlib.Nat.{le-of-suc-le-suc}
@@ -62,6 +62,10 @@ readAhead bytes from = foundIn bytes (endFrom bytes from) (readEntry (restOf byt
 -- The same, behind the first k numbers of the line.
 abbrev pub aheadBehind : Bool → ℕ → List ℕ → List ℕ → ℕ → Ahead
 aheadBehind below k numbers bytes at = foundIn bytes (endFrom bytes at) (behind below k numbers (fieldsOf (restOf bytes at)))
+
+-- Whether an `S` and a tab stand at a place.
+abbrev pub startsSample : List ℕ → ℕ → Bool
+startsSample bytes from = eqb (getD bytes from 0) 83 && eqb (getD bytes (from + 1) 0) 9
 
 -- ---- nothing is found
 
@@ -240,22 +244,28 @@ module _ (bytes : List ℕ) (from : ℕ) where
         ∙ drop-cons bytes (from + 1) 0 (omega arith)
         ∙ ap (λ (j : ℕ). getD bytes (from + 1) 0 ∷ drop j bytes) b)
 
-    pub start-other : (getD bytes from 0 ≡ 83 → ⊥) → nothing ≡ readAhead bytes from
+    start-other : (getD bytes from 0 ≡ 83 → ⊥) → nothing ≡ readAhead bytes from
     unfolding readAhead
     start-other n =
         nothing-said bytes (endFrom bytes from) (readEntry (restOf bytes from))
         (ap (λ (x : List ℕ). foundAs (endFrom bytes from) (readEntry (before 10 x))) two ∙ other-letter _ _ _ (endFrom bytes from) n)
 
-    pub start-no-tab : (getD bytes (from + 1) 0 ≡ 9 → ⊥) → nothing ≡ readAhead bytes from
+    start-no-tab : (getD bytes (from + 1) 0 ≡ 9 → ⊥) → nothing ≡ readAhead bytes from
     unfolding readAhead
     start-no-tab n =
         nothing-said bytes (endFrom bytes from) (readEntry (restOf bytes from))
         (ap (λ (x : List ℕ). foundAs (endFrom bytes from) (readEntry (before 10 x))) two ∙ no-tab-behind _ _ _ (endFrom bytes from) n)
 
-    pub start-sample : getD bytes from 0 ≡ 83 → getD bytes (from + 1) 0 ≡ 9
+    pub start-not : startsSample bytes from ≡ false → nothing ≡ readAhead bytes from
+    start-not e =
+        by-test (eqb (getD bytes from 0) 83)
+        (λ s. start-no-tab (λ q. clash (eq-eqb (getD bytes (from + 1) 0) 9 q) (rw s at e)))
+        (λ s. start-other (λ q. clash (eq-eqb (getD bytes from 0) 83 q) s))
+
+    sample-starts : getD bytes from 0 ≡ 83 → getD bytes (from + 1) 0 ≡ 9
         → foundIn bytes (endFrom bytes (from + 2)) (readSample (fieldsOf (restOf bytes (from + 2)))) ≡ readAhead bytes from
     unfolding readAhead before
-    start-sample s t =
+    sample-starts s t =
         let x : drop from bytes ≡ 83 ∷ 9 ∷ drop (from + 2) bytes =
         two ∙ ap (λ (a : ℕ). a ∷ getD bytes (from + 1) 0 ∷ drop (from + 2) bytes) s ∙ ap (λ (b : ℕ). 83 ∷ b ∷ drop (from + 2) bytes) t in
         let m : length (restOf bytes from) ≡ suc (suc (length (restOf bytes (from + 2)))) = ap (λ (z : List ℕ). length (before 10 z)) x in
@@ -264,6 +274,11 @@ module _ (bytes : List ℕ) (from : ℕ) where
         (ap (λ (j : ℕ). foundIn bytes j (readEntry (restOf bytes from))) w
         ∙ ap (λ (z : List ℕ). foundIn bytes (endFrom bytes (from + 2)) (readEntry (before 10 z))) x
         ∙ ap (foundIn bytes (endFrom bytes (from + 2))) (letter-and-tab (drop (from + 2) bytes)))
+
+    pub start-sample : startsSample bytes from ≡ true
+        → foundIn bytes (endFrom bytes (from + 2)) (readSample (fieldsOf (restOf bytes (from + 2)))) ≡ readAhead bytes from
+    start-sample e =
+        sample-starts (eqb-true (getD bytes from 0) 83 (and-left _ _ e)) (eqb-true (getD bytes (from + 1) 0) 9 (and-right (eqb (getD bytes from 0) 83) _ e))
 
 -- ---- the minus
 

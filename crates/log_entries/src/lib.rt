@@ -7,7 +7,7 @@ ghost use Rattle.text_fields.specs.Fields.{fieldsOf};
 ghost use Rattle.log_entries.specs.Entry.{malformed, offer, readCommand, readSample, readEntry};
 ghost use Rattle.log_entries.specs.Left.{left};
 ghost use Rattle.log_entries.specs.InTurn.{cellsOf, readNumbers, behind};
-ghost use Rattle.log_entries.specs.Ahead.{restOf, endFrom, nothing, foundAs, foundIn, readAhead};
+ghost use Rattle.log_entries.specs.Ahead.{restOf, endFrom, nothing, foundAs, foundIn, readAhead, startsSample};
 use sample::Sample;
 use sample::no_sample;
 use text_number_at::FieldNumber;
@@ -217,6 +217,14 @@ fn numbers_ahead(bytes: &[u8], from: usize, below: bool) -> Ahead
     }
 }
 
+// Whether an `S` and a tab stand at `from`: both are looked at before anything is decided, which is one comparison for the machine.
+fn starts_sample(bytes: &[u8], from: usize) -> bool
+    requires { ⌜ from + 2 ≤ length (now bytes) ⌝ }
+    ensures { λ r. ⌜ r ≡ startsSample (now (bytes .entry)) from ⌝ }
+{
+    (bytes[from] == b'S') & (bytes[from + 1] == b'\t')
+}
+
 // An `S` line that starts at `from`, read along up to its newline; nothing where the line does not end, or is no such line.
 pub fn read_ahead(bytes: &[u8], from: usize) -> Ahead
     ensures { λ r. ⌜ r ≡ readAhead (now (bytes .entry)) from ⌝ }
@@ -228,12 +236,9 @@ pub fn read_ahead(bytes: &[u8], from: usize) -> Ahead
     if n - from < 2 {
         return nothing_found();
     }
-    if bytes[from] != b'S' {
-        return nothing_found();
+    if starts_sample(bytes, from) {
+        let start = past_minus(bytes, from + 2);
+        return numbers_ahead(bytes, start, from + 2 < start);
     }
-    if bytes[from + 1] != b'\t' {
-        return nothing_found();
-    }
-    let start = past_minus(bytes, from + 2);
-    numbers_ahead(bytes, start, from + 2 < start)
+    nothing_found()
 }

@@ -1,8 +1,8 @@
 -- `log_entries::read_ahead` meets its contract: each way out settles how the line starts. Assumes nothing.
-use mathlib.Core.Path.{_∙_}
+use mathlib.Core.Path.{sym, _∙_}
 use Prim.Native.Nat.{_+_}
 use native.Mathlib.Omega.{arith}
-use Rattle.log_entries.specs.Ahead.{start-short, start-other, start-no-tab, start-sample, sample-ahead}
+use Rattle.log_entries.specs.Ahead.{start-short, start-not, start-sample, sample-ahead}
 use borrow.Author.Needs.{needs}
 use Rattle.log_entries.proofs.read_ahead.Statement.{statement}
 use Rattle.log_entries.proofs.read_ahead.Tie as tie
@@ -21,28 +21,8 @@ returns-2 : tie.Need-returns-2
 returns-2 c = let a = c .before .before .before .before .args in
     c .nothing-found2 .ensures ∙ start-short (a .bytes .now) (a .from) (omega arith)
 
-shared-slice-read-if3 : tie.Need-shared-slice-read-if3
-shared-slice-read-if3 c = search needs
-
-nothing-found-requires-3 : tie.Need-nothing-found-requires-3
-nothing-found-requires-3 c κs = search needs
-
-returns-3 : tie.Need-returns-3
-returns-3 c = let a = c .before .before .before .before .before .before .args in
-    c .nothing-found3 .ensures ∙ start-other (a .bytes .now) (a .from) (omega arith) (c .before .if3 .taken)
-
-add-if4 : tie.Need-add-if4
-add-if4 c = search needs
-
-shared-slice-read-if4 : tie.Need-shared-slice-read-if4
-shared-slice-read-if4 c = search needs
-
-nothing-found-requires-4 : tie.Need-nothing-found-requires-4
-nothing-found-requires-4 c κs = search needs
-
-returns-4 : tie.Need-returns-4
-returns-4 c = let a = c .before .before .before .before .before .before .before .before .args in
-    c .nothing-found4 .ensures ∙ start-no-tab (a .bytes .now) (a .from) (omega arith) (c .before .if4 .taken)
+starts-sample-requires : tie.Need-starts-sample-requires
+starts-sample-requires c κs = omega arith
 
 add-past-minus : tie.Need-add-past-minus
 add-past-minus c = search needs
@@ -56,11 +36,18 @@ add-numbers-ahead c = search needs
 numbers-ahead-requires : tie.Need-numbers-ahead-requires
 numbers-ahead-requires c κs = search needs
 
-returns-5 : tie.Need-returns-5
-returns-5 c = let a = c .before .before .before .before .before .before .before .before .before .args in
+returns-3 : tie.Need-returns-3
+returns-3 c = let a = c .before .before .before .before .before .before .before .args in
     rw (c .before .past-minus .ensures .0) at (c .numbers-ahead .ensures)
     ∙ sample-ahead (a .bytes .now) (a .from + 2)
-    ∙ start-sample (a .bytes .now) (a .from) (omega arith) (c .before .before .before .before .if3 .left) (c .before .before .if4 .left)
+    ∙ start-sample (a .bytes .now) (a .from) (omega arith) (sym (c .before .before .before .starts-sample .ensures) ∙ c .before .before .if3 .taken)
+
+nothing-found-requires-3 : tie.Need-nothing-found-requires-3
+nothing-found-requires-3 c κs = search needs
+
+returns-4 : tie.Need-returns-4
+returns-4 c = let a = c .before .before .before .before .before .before .args in
+    c .nothing-found3 .ensures ∙ start-not (a .bytes .now) (a .from) (omega arith) (sym (c .before .before .starts-sample .ensures) ∙ c .before .if3 .left)
 
 pub read-ahead-spec : {M : Type 1} → statement M
 read-ahead-spec =
@@ -70,15 +57,11 @@ read-ahead-spec =
     returns
     nothing-found-requires-2
     returns-2
-    shared-slice-read-if3
-    nothing-found-requires-3
-    returns-3
-    add-if4
-    shared-slice-read-if4
-    nothing-found-requires-4
-    returns-4
+    starts-sample-requires
     add-past-minus
     past-minus-requires
     add-numbers-ahead
     numbers-ahead-requires
-    returns-5)
+    returns-3
+    nothing-found-requires-3
+    returns-4)
