@@ -16,9 +16,6 @@ use std::process;
 /// How much of the log is read at once, and about how much is written at once.
 const BLOCK: usize = 1 << 18;
 
-/// Bytes after the block, so that five can be taken at any place in it.
-const SPARE: usize = 8;
-
 const HEADER: &[u8] = b"tick\traised\tfets\tbalance\tmode\n";
 
 // ---- The page -----------------------------------------------------------------------------
@@ -407,76 +404,70 @@ struct Sample {
     cells: [i32; 10],
 }
 
-/// Reads lines where they stand: `place` goes forward over `text`, in which a newline stands at
-/// or after `place` and `SPARE` bytes stand after it, and never goes over a newline.
+/// Reads lines where they stand: `rest` is what is left of the text, the last line of which ends
+/// with its newline. Only `next_line` goes over a newline.
 struct Reader<'t> {
-    text: &'t [u8],
-    place: usize,
+    rest: &'t [u8],
 }
 
 impl<'t> Reader<'t> {
+    /// Goes over this byte, if it is the next one.
     #[inline(always)]
-    fn here(&self) -> u8 {
-        self.text[self.place]
-    }
-
-    /// Goes over one tab.
-    #[inline(always)]
-    fn tab(&mut self) -> Option<()> {
-        if self.here() != b'\t' {
-            return None;
+    fn over(&mut self, byte: u8) -> Option<()> {
+        match self.rest {
+            [first, rest @ ..] if *first == byte => {
+                self.rest = rest;
+                Some(())
+            }
+            _ => None,
         }
-        self.place += 1;
-        Some(())
     }
 
     /// A decimal number 0..65535 without leading zeros, ending before the next byte that is no
     /// digit. Most have four digits: those are taken at once.
     #[inline(always)]
     fn number(&mut self) -> Option<i32> {
-        let start = self.place;
-        let five = self.text.get(start..start + 5)?;
-        let digits = u32::from_le_bytes([five[0], five[1], five[2], five[3]]) ^ 0x3030_3030;
-        // A digit's byte is now 0..9; any other has its top bit set, here or with 0x76 added.
-        let others = (digits.wrapping_add(0x7676_7676) | digits) & 0x8080_8080;
-        if others == 0 && digits & 0xFF != 0 && five[4].wrapping_sub(b'0') > 9 {
-            self.place = start + 4;
-            let pairs = digits.wrapping_mul(10).wrapping_add(digits >> 8);
-            return Some(((pairs & 0xFF) * 100 + (pairs >> 16 & 0xFF)) as i32);
+        if let [a, b, c, d, e, ..] = *self.rest {
+            let digits = u32::from_le_bytes([a, b, c, d]) ^ 0x3030_3030;
+            // A digit's byte is now 0..9; any other has its top bit set, here or with 0x76 added.
+            let others = (digits.wrapping_add(0x7676_7676) | digits) & 0x8080_8080;
+            if others == 0 && digits & 0xFF != 0 && e.wrapping_sub(b'0') > 9 {
+                self.rest = &self.rest[4..];
+                let pairs = digits.wrapping_mul(10).wrapping_add(digits >> 8);
+                return Some(((pairs & 0xFF) * 100 + (pairs >> 16 & 0xFF)) as i32);
+            }
         }
         self.any_number()
     }
 
-    /// The same, digit by digit.
+    /// The same, digit by digit. A zero in front is a number by itself.
     #[inline(never)]
     fn any_number(&mut self) -> Option<i32> {
-        let first = self.here().wrapping_sub(b'0');
-        if first > 9 {
-            return None;
-        }
-        self.place += 1;
-        let mut value = i32::from(first);
-        if first == 0 {
-            return Some(0);
-        }
-        loop {
-            let digit = self.here().wrapping_sub(b'0');
-            if digit > 9 {
-                return Some(value);
+        let mut value = 0;
+        let mut count = 0;
+        for byte in self.rest {
+            let digit = byte.wrapping_sub(b'0');
+            if digit > 9 || count == 1 && value == 0 {
+                break;
             }
             value = 10 * value + i32::from(digit);
+            count += 1;
             if value > 65535 {
                 return None;
             }
-            self.place += 1;
+        }
+        self.rest = &self.rest[count..];
+        if count > 0 {
+            Some(value)
+        } else {
+            None
         }
     }
 
     /// -32768..32767, no `-0`.
     #[inline(always)]
     fn current(&mut self) -> Option<i32> {
-        if self.here() == b'-' {
-            self.place += 1;
+        if self.over(b'-').is_some() {
             return match self.number() {
                 Some(size) if size >= 1 && size <= 32768 => Some(-size),
                 _ => None,
@@ -489,15 +480,14 @@ impl<'t> Reader<'t> {
     /// bytes, so that the limit of 128 needs no test of its own.
     #[inline(always)]
     fn sample(&mut self, sample: &mut Sample) -> Option<()> {
-        self.tab()?;
+        self.over(b'\t')?;
         sample.current = self.current()?;
-        self.tab()?;
+        self.over(b'\t')?;
         sample.temperature_1 = self.number()?;
-        self.tab()?;
+        self.over(b'\t')?;
         sample.temperature_2 = self.number()?;
         let mut count = 0;
-        while self.here() == b'\t' {
-            self.place += 1;
+        while self.over(b'\t').is_some() {
             *sample.cells.get_mut(count)? = self.number()?;
             count += 1;
         }
@@ -507,14 +497,14 @@ impl<'t> Reader<'t> {
 
     /// The field of an `F` line up to its newline.
     fn command(&mut self) -> Option<u32> {
-        self.tab()?;
+        self.over(b'\t')?;
         let number = self.number()?;
         self.line_ends()?;
         Some(number as u32)
     }
 
     fn line_ends(&self) -> Option<()> {
-        if self.here() == b'\n' {
+        if self.rest.first() == Some(&b'\n') {
             Some(())
         } else {
             None
@@ -522,10 +512,12 @@ impl<'t> Reader<'t> {
     }
 
     fn next_line(&mut self) {
-        while self.here() != b'\n' {
-            self.place += 1;
+        while let [first, rest @ ..] = self.rest {
+            self.rest = rest;
+            if *first == b'\n' {
+                return;
+            }
         }
-        self.place += 1;
     }
 }
 
@@ -611,21 +603,13 @@ impl Output {
 
 // ---- The replay ---------------------------------------------------------------------------
 
-/// Decides the lines of `text` from `from` up to `to`; a newline stands just before `to`.
-fn decide(
-    text: &[u8],
-    from: usize,
-    to: usize,
-    pack: &mut Pack,
-    output: &mut Output,
-) -> Result<(), String> {
-    let mut reader = Reader { text, place: from };
+/// Decides the lines of `text`, the last of which ends with its newline.
+fn decide(text: &[u8], pack: &mut Pack, output: &mut Output) -> Result<(), String> {
+    let mut reader = Reader { rest: text };
     let mut sample =
         Sample { current: 0, temperature_1: 0, temperature_2: 0, count: 0, cells: [0; 10] };
-    while reader.place < to {
-        let kind = reader.here();
-        if kind == b'S' {
-            reader.place += 1;
+    while !reader.rest.is_empty() {
+        if reader.over(b'S').is_some() {
             match reader.sample(&mut sample).ok_or(17).and_then(|()| pack.sample(&sample)) {
                 Ok(()) => {
                     output.count_up();
@@ -633,8 +617,7 @@ fn decide(
                 }
                 Err(number) => output.refused(number),
             }
-        } else if kind == b'F' {
-            reader.place += 1;
+        } else if reader.over(b'F').is_some() {
             match reader.command().ok_or(17).and_then(|number| pack.command(number)) {
                 Ok(()) => output.decision(pack),
                 Err(number) => output.refused(number),
@@ -669,7 +652,7 @@ fn decide_log(
     pack: &mut Pack,
     output: &mut Output,
 ) -> Result<(), String> {
-    let mut block = vec![0u8; BLOCK + 1 + SPARE];
+    let mut block = vec![0u8; BLOCK + 1];
     let mut filled = read_block(log, &mut block[..BLOCK], name)?;
     let mut ended = filled == 0;
     let mut too_long = false;
@@ -687,7 +670,7 @@ fn decide_log(
             output.refused(17);
             too_long = false;
         }
-        decide(&block, from, whole, pack, output)?;
+        decide(&block[from..whole], pack, output)?;
         if ended {
             return output.write_out();
         }
