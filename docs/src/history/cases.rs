@@ -261,7 +261,7 @@ fn fields_of(sample: &Sample) -> Vec<String> {
     fields
 }
 
-pub fn sample_line(sample: &Sample) -> Vec<u8> {
+pub(crate) fn sample_line(sample: &Sample) -> Vec<u8> {
     fields_of(sample).join("\t").into_bytes()
 }
 
@@ -433,7 +433,7 @@ fn short_lines(dice: &mut Dice, words: &[u16]) -> Vec<Vec<u8>> {
 }
 
 /// The page and the log of case k. Each case has its own dice, so it does not depend on COUNT.
-pub fn case(seed: u64, k: u64) -> (Vec<u8>, Vec<u8>) {
+pub(crate) fn case(seed: u64, k: u64) -> (Vec<u8>, Vec<u8>) {
     let mut dice = Dice(Dice(seed).next() ^ (k + 1).wrapping_mul(0xD6E8_FEB8_6659_FD93));
     let lively = dice.below(4);
     let words = match k % 50 {
@@ -463,7 +463,7 @@ pub fn case(seed: u64, k: u64) -> (Vec<u8>, Vec<u8>) {
     (page, join_lines(&mut dice, &lines))
 }
 
-pub fn write_cases(seed: u64, count: u64, directory: &str) -> Result<(), String> {
+pub(crate) fn write_cases(seed: u64, count: u64, directory: &str) -> Result<(), String> {
     fs::create_dir_all(directory).map_err(|error| file_error(directory, error))?;
     for k in 0..count {
         let (page, log) = case(seed, k);

@@ -131,7 +131,7 @@ impl Speaker {
     }
 }
 
-pub fn write_big(seed: u64, count: u64, n: usize, out: &mut dyn Write) -> io::Result<()> {
+pub(crate) fn write_big(seed: u64, count: u64, n: usize, out: &mut dyn Write) -> io::Result<()> {
     let mut dice = Dice(seed);
     let mut speaker = Speaker::new(n, &mut dice);
     for _ in 0..count {

@@ -6,22 +6,22 @@ use super::*;
 pub type Words = Vec<u16>;
 
 /// Document 01's page.
-pub fn short() -> &'static Layout {
+pub(crate) fn short() -> &'static Layout {
     &LAYOUTS[0]
 }
 
 /// The new page of document 02, request 07.
-pub fn long() -> &'static Layout {
+pub(crate) fn long() -> &'static Layout {
     &LAYOUTS[1]
 }
 
 /// One as often as the other.
-pub fn some_layout(dice: &mut Dice) -> &'static Layout {
+pub(crate) fn some_layout(dice: &mut Dice) -> &'static Layout {
     dice.pick(&[short(), long()])
 }
 
 /// The layout that has so many words.
-pub fn layout_of(words: &[u16]) -> &'static Layout {
+pub(crate) fn layout_of(words: &[u16]) -> &'static Layout {
     if words.len() > 64 {
         long()
     } else {
@@ -30,7 +30,7 @@ pub fn layout_of(words: &[u16]) -> &'static Layout {
 }
 
 /// The bytes of the words, with the right check byte: only one byte of the last word is its own.
-pub fn page_of(words: &[u16]) -> Vec<u8> {
+pub(crate) fn page_of(words: &[u16]) -> Vec<u8> {
     sealed(words.iter().flat_map(|word| word.to_le_bytes()).collect())
 }
 
@@ -42,12 +42,12 @@ fn sealed(mut page: Vec<u8>) -> Vec<u8> {
 }
 
 /// A signed level as a word.
-pub fn level_word(level: i64) -> u16 {
+pub(crate) fn level_word(level: i64) -> u16 {
     level as i16 as u16
 }
 
 /// An everyday page of a speaker with n cells; the pages of `big` and of the worked samples.
-pub fn everyday_words(layout: &Layout, n: u16) -> Words {
+pub(crate) fn everyday_words(layout: &Layout, n: u16) -> Words {
     let mut words = vec![0; layout.last + 1];
     words[..9].copy_from_slice(&[layout.mark, n, 2, 20, 3600, 12, 100, 4200, 2000]);
     let protections: [[i64; 5]; 10] = [
@@ -71,7 +71,7 @@ pub fn everyday_words(layout: &Layout, n: u16) -> Words {
 }
 
 /// Give protection p these levels, the one that trips first put where it belongs.
-pub fn set_levels(words: &mut [u16], p: usize, one: i64, other: i64) {
+pub(crate) fn set_levels(words: &mut [u16], p: usize, one: i64, other: i64) {
     let (low, high) = (one.min(other), one.max(other));
     let (trip, release) = match PROTECTIONS[p].1 {
         AtOrAbove => (high, low),
@@ -87,7 +87,7 @@ fn level_ends(p: usize) -> (i64, i64) {
 }
 
 /// Any accepted page, the ends of the ranges often.
-pub fn accepted_words(layout: &Layout, dice: &mut Dice) -> Words {
+pub(crate) fn accepted_words(layout: &Layout, dice: &mut Dice) -> Words {
     let mut words = vec![0; layout.last + 1];
     words[0] = layout.mark;
     for (word, least, most) in RANGES {
@@ -106,14 +106,14 @@ pub fn accepted_words(layout: &Layout, dice: &mut Dice) -> Words {
 }
 
 /// The judge's answer as one number: 0, or refusal number × 256 + word.
-pub fn answer(page: &[u8]) -> u32 {
+pub(crate) fn answer(page: &[u8]) -> u32 {
     match judge(page) {
         Ok(_) => 0,
         Err(refusal) => refused_as(u32::from(refusal.number), refusal.word),
     }
 }
 
-pub fn refused_as(number: u32, word: usize) -> u32 {
+pub(crate) fn refused_as(number: u32, word: usize) -> u32 {
     number * 256 + word as u32
 }
 
@@ -212,7 +212,7 @@ fn faulty_page(layout: &Layout, faults: &[Fault], dice: &mut Dice) -> Made {
     (lowest, page_of(&words))
 }
 
-pub fn byte_swapped(page: &[u8]) -> Vec<u8> {
+pub(crate) fn byte_swapped(page: &[u8]) -> Vec<u8> {
     page.chunks(2).flat_map(|pair| pair.iter().rev().copied()).collect()
 }
 
@@ -222,7 +222,7 @@ fn with_mark(mark: u16, mut words: Words) -> Vec<u8> {
 }
 
 /// Every answer that there is for a page of this layout.
-pub fn each_answer(layout: &Layout, dice: &mut Dice) -> Vec<Made> {
+pub(crate) fn each_answer(layout: &Layout, dice: &mut Dice) -> Vec<Made> {
     let everyday = || everyday_words(layout, 7);
     let mut made = vec![(0, page_of(&everyday())), (refused_as(1, 0), vec![])];
     for mark in [0xA417, 0xA517] {
@@ -416,7 +416,7 @@ fn table_pages(dice: &mut Dice) -> Vec<Made> {
 }
 
 /// Any page; the answer it was made for is `None` where only the judge can tell.
-pub fn random_page(dice: &mut Dice) -> (Option<u32>, Vec<u8>) {
+pub(crate) fn random_page(dice: &mut Dice) -> (Option<u32>, Vec<u8>) {
     let layout = some_layout(dice);
     let mut words = accepted_words(layout, dice);
     match dice.below(13) {
@@ -478,7 +478,7 @@ pub fn random_page(dice: &mut Dice) -> (Option<u32>, Vec<u8>) {
 }
 
 /// COUNT pages with the judge's answers; an error if one was made for another answer.
-pub fn made_pages(seed: u64, count: usize) -> Result<Vec<Made>, String> {
+pub(crate) fn made_pages(seed: u64, count: usize) -> Result<Vec<Made>, String> {
     let mut dice = Dice(seed);
     let mut pages: Vec<(Option<u32>, Vec<u8>)> =
         table_pages(&mut dice).into_iter().map(|(answer, page)| (Some(answer), page)).collect();
@@ -497,7 +497,7 @@ pub fn made_pages(seed: u64, count: usize) -> Result<Vec<Made>, String> {
         .collect()
 }
 
-pub fn write_pages(seed: u64, count: usize, out: &mut dyn Write) -> Result<(), String> {
+pub(crate) fn write_pages(seed: u64, count: usize, out: &mut dyn Write) -> Result<(), String> {
     for (answer, page) in made_pages(seed, count)? {
         let bytes = if page.is_empty() { "-".to_string() } else { hex(&page) };
         writeln!(out, "{} {}", answer, bytes).map_err(stdout_error)?;
@@ -509,7 +509,7 @@ pub fn write_pages(seed: u64, count: usize, out: &mut dyn Write) -> Result<(), S
 
 /// Lines of `word value`; `#` begins a remark. The page is the long one if a word above 63 is
 /// named. Its mark stands if word 0 is not named; its last byte is always the check byte.
-pub fn page_from_list(list: &str) -> Result<Vec<u8>, String> {
+pub(crate) fn page_from_list(list: &str) -> Result<Vec<u8>, String> {
     let mut named: Vec<(usize, u16)> = vec![];
     for (place, line) in list.lines().enumerate() {
         let wrong = || format!("line {}: not `word value`: {}", place + 1, line);

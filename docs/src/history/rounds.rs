@@ -137,7 +137,7 @@ fn of_case(k: u64) -> Option<Turns> {
 
 /// Document 01's three cells: K 1, R 1, "At samples 3 to 7 the wanting cells are {1,2}, {1,3},
 /// {1,2}, {1,3}, {1,2}; none want earlier".
-pub fn three_cells() -> (Page, Vec<Sample>) {
+pub(crate) fn three_cells() -> (Page, Vec<Sample>) {
     let page = page_with(3, &[(2, 1), (3, 1), (4, 3900), (5, 10), (6, 100)]);
     let none = [4000, 4000, 4000];
     let one_two = [4020, 4020, 4000];
@@ -156,7 +156,7 @@ fn total<const N: usize>(all: &[Turns], count: impl Fn(&Turns) -> [usize; N]) ->
     sums
 }
 
-pub fn check_the_rounds(checks: &mut Checks) {
+pub(crate) fn check_the_rounds(checks: &mut Checks) {
     let mut dice = Dice(14);
     let mut all: Vec<Turns> = (0..300).map(|_| busy(&mut dice)).collect();
     all.extend((0..200).filter_map(of_case));

@@ -14,7 +14,7 @@ pub struct Checks {
 }
 
 impl Checks {
-    pub fn that(&mut self, what: &str, holds: bool) {
+    pub(crate) fn that(&mut self, what: &str, holds: bool) {
         if holds {
             self.passed += 1;
         } else {
@@ -33,14 +33,14 @@ fn changed(layout: &Layout, n: u16, changes: &[(usize, i64)]) -> Vec<u8> {
     page_of(&words)
 }
 
-pub fn accepted(page: &[u8]) -> Page {
+pub(crate) fn accepted(page: &[u8]) -> Page {
     match judge(page) {
         Ok(page) => page,
         Err(refusal) => panic!("a page of the self test is refused: {:?}", refusal),
     }
 }
 
-pub fn page_with(n: u16, changes: &[(usize, i64)]) -> Page {
+pub(crate) fn page_with(n: u16, changes: &[(usize, i64)]) -> Page {
     accepted(&changed(short(), n, changes))
 }
 
@@ -48,7 +48,7 @@ fn long_page_with(n: u16, changes: &[(usize, i64)]) -> Page {
     accepted(&changed(long(), n, changes))
 }
 
-pub fn sample_of(current: i16, cells: &[u16]) -> Sample {
+pub(crate) fn sample_of(current: i16, cells: &[u16]) -> Sample {
     Sample { current, temperature_1: 2980, temperature_2: 2980, cells: cells.to_vec() }
 }
 
@@ -465,7 +465,7 @@ fn check_the_tick(checks: &mut Checks) {
     checks.that("the start cell is 2, not 1", history.bled_now() == 2);
 }
 
-pub fn selftest() -> bool {
+pub(crate) fn selftest() -> bool {
     let mut checks = Checks { passed: 0, failed: 0 };
     check_the_check_byte(&mut checks);
     check_the_debounce(&mut checks);
