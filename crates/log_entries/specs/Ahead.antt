@@ -19,7 +19,8 @@ use Rattle.text_numbers.specs.declared.Number.the-variants as number
 use Rattle.text_numbers.specs.Numbers.{readNumber}
 use Rattle.text_numbers.specs.Signs.{hasMinus, pastMinus}
 use Rattle.text_number_at.specs.declared.FieldNumber.the-variants as field
-use Rattle.text_number_at.specs.Along.{fieldAlong, endAlong, numberAlong, along-value, along-none}
+use Rattle.text_number_at.specs.declared.FourRead.{FourRead}
+use Rattle.text_number_at.specs.Along.{fieldAlong, endAlong, numberAlong, fourTabbed, along-value, along-none, tabbed-tab, tabbed-along}
 use Rattle.log_entries.specs.declared.Kind.{Kind}
 use Rattle.log_entries.specs.declared.Kind.the-variants.{Offer, Command, Malformed}
 use Rattle.log_entries.specs.declared.Entry.{Entry}
@@ -179,6 +180,16 @@ module _ (bytes : List ℕ) (at : ℕ) (below : Bool) (k : ℕ) (numbers : List 
               ∙ ap (foundIn bytes (endFrom bytes (e + 1))) (s .0)),
           s .1,
         )
+
+  -- Four digits and a tab were read at once.
+  module _ (h : k < 13) (l : length numbers ≡ 13) (n : NoCell k numbers) (b : (i : ℕ) → getD bytes i 0 < 256) where
+    pub ahead-four : (r : FourRead) → r ≡ fourTabbed bytes at → r .spelt ≡ true
+        → (aheadBehind below (k + 1) (set numbers k (r .number)) bytes (at + 5) ≡ aheadBehind below k numbers bytes at)
+        × NoCell (k + 1) (set numbers k (r .number))
+    ahead-four r e s =
+        let tab = tabbed-tab bytes at r e s in
+        let place : at + 5 ≡ at + 4 + 1 = omega arith in
+        rw place (ahead-next (r .number) (at + 4) h l n (tabbed-along bytes at r e s b) (λ z. omega arith))
 
 -- ---- the start of the line
 

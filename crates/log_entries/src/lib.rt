@@ -11,6 +11,7 @@ ghost use Rattle.log_entries.specs.Ahead.{restOf, endFrom, nothing, foun
 use sample::Sample;
 use sample::no_sample;
 use text_number_at::FieldNumber;
+use text_number_at::four_tabbed;
 use text_number_at::number_along;
 use text_number_at::number_at;
 use text_numbers::Number;
@@ -193,7 +194,7 @@ fn all_read(below: bool, numbers: [u16; 13], count: usize, end: usize) -> Ahead
     }
 }
 
-// The numbers of an `S` line from `from` on, up to its newline.
+// The numbers of an `S` line from `from` on, up to its newline. Most have four digits and a tab behind them, which is asked first.
 fn numbers_ahead(bytes: &[u8], from: usize, below: bool) -> Ahead
     ensures { λ r. ⌜ r ≡ foundIn (now (bytes .entry)) (endFrom (now (bytes .entry)) from) (readNumbers below (fieldsOf (restOf (now (bytes .entry)) from))) ⌝ }
 {
@@ -203,6 +204,13 @@ fn numbers_ahead(bytes: &[u8], from: usize, below: bool) -> Ahead
     loop {
         if 13 <= count {
             return nothing_found();
+        }
+        let f = four_tabbed(bytes, at);
+        if f.spelt {
+            numbers[count] = f.number;
+            count += 1;
+            at += 5;
+            continue;
         }
         let n = number_along(bytes, at);
         let FieldNumber::Value { number, end } = n else {

@@ -17,7 +17,9 @@ use Rattle.text_fields.specs.Spelling.{decimal-lacks}
 use Rattle.text_numbers.specs.Canonical.{number-text}
 use Rattle.text_numbers.specs.declared.Number.{Number}
 use Rattle.text_numbers.specs.declared.Number.the-variants.{Value, Malformed}
-use Rattle.text_number_at.specs.NumberAt.{withEnd, value-is, none-is, fourAt, four-split}
+use Rattle.text_number_at.specs.Four.{notFour}
+use Rattle.text_number_at.specs.NumberAt.{withEnd, value-is, none-is, fourAt, four-split, readFourAt, four-read}
+use Rattle.text_number_at.specs.declared.FourRead.{FourRead}
 use Rattle.text_number_at.specs.declared.FieldNumber.{FieldNumber}
 use Rattle.text_number_at.specs.declared.FieldNumber.the-variants as field
 
@@ -41,6 +43,14 @@ endsField b = eqb b 9 || eqb b 10
 -- whether four bytes are left from a place on, and behind them one that ends a field
 abbrev pub fourEnded : List ℕ → ℕ → Bool
 fourEnded bytes from = ltb from (length bytes - 4) && endsField (getD bytes (from + 4) 0)
+
+-- whether four bytes are left from a place on, and behind them a tab
+abbrev pub fourBeforeTab : List ℕ → ℕ → Bool
+fourBeforeTab bytes from = ltb from (length bytes - 4) && eqb (getD bytes (from + 4) 0) 9
+
+-- four bytes and a tab behind them, as the code reads them; where no tab stands there, nothing is read
+unfoldable pub fourTabbed : List ℕ → ℕ → FourRead
+fourTabbed bytes from = cond (fourBeforeTab bytes from) (readFourAt bytes from) notFour
 
 -- ---- the search for the end
 
@@ -143,3 +153,28 @@ module _ (bytes : List ℕ) (from : ℕ) (t : fourEnded bytes from ≡ true) whe
       let f = ended-field v e in
       let h = ended-within in
       rw (f, lt-ltb (from + 4) (length bytes) h, e)
+
+-- what was read before a tab is the field that starts there
+module _ (bytes : List ℕ) (from : ℕ) where
+  tabbed-is : fourTabbed bytes from .spelt ≡ true → (fourBeforeTab bytes from ≡ true) × (fourTabbed bytes from ≡ readFourAt bytes from)
+  unfolding fourTabbed
+  tabbed-is s = by-test (fourBeforeTab bytes from) (λ t. (t, rw t)) (λ t. clash refl (sym (rw t at s)))
+
+  before-tab : fourBeforeTab bytes from ≡ true → (fourEnded bytes from ≡ true) × (getD bytes (from + 4) 0 ≡ 9)
+  before-tab t =
+      let l = and-left (ltb from (length bytes - 4)) (eqb (getD bytes (from + 4) 0) 9) t in
+      let e = and-right (ltb from (length bytes - 4)) (eqb (getD bytes (from + 4) 0) 9) t in
+      (rw (l, e), eqb-true (getD bytes (from + 4) 0) 9 e)
+
+  module _ (r : FourRead) (e : r ≡ fourTabbed bytes from) (s : r .spelt ≡ true) where
+    tabbed : (fourBeforeTab bytes from ≡ true) × (r ≡ readFourAt bytes from)
+    tabbed = let q = tabbed-is (rw e at s) in (q .0, e ∙ q .1)
+
+    pub tabbed-tab : getD bytes (from + 4) 0 ≡ 9
+    tabbed-tab = before-tab (tabbed .0) .1
+
+    pub tabbed-within : from + 5 ≤ length bytes
+    tabbed-within = let l = ended-within bytes from (before-tab (tabbed .0) .0) in omega arith
+
+    pub tabbed-along : ((i : ℕ) → getD bytes i 0 < 256) → numberAlong bytes from ≡ field.Value (r .number) (from + 4)
+    tabbed-along h = sym (along-quick bytes from (before-tab (tabbed .0) .0) (r .number) (four-read bytes from h r (tabbed .1) s))

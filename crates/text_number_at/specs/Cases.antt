@@ -5,9 +5,9 @@ use mathlib.Core.List.{[], _∷_}
 use Rattle.text_fields.specs.Quoted.{quoted}
 use Rattle.text_fields.specs.Finding.{before}
 use Rattle.text_numbers.specs.Numbers.{numberTo, digitsTo}
-use Rattle.text_number_at.specs.Four.{together, spellsFour, valued}
+use Rattle.text_number_at.specs.Four.{together, spellsFour, valued, readFour, notFour}
 use Rattle.text_number_at.specs.NumberAt.{numberAt, fourAt, fourLeft}
-use Rattle.text_number_at.specs.Along.{numberAlong, endsField, fourEnded}
+use Rattle.text_number_at.specs.Along.{numberAlong, endsField, fourEnded, fourTabbed}
 use Rattle.text_number_at.specs.declared.FieldNumber.the-variants.{Value, Malformed}
 
 -- the numbers of "S<tab>12<tab>3456<tab>65535", and where they end
@@ -59,3 +59,17 @@ ended-fours = (refl, refl, refl, refl, refl)
 
 pub ends : (endsField 9 ≡ true) × (endsField 10 ≡ true) × (endsField 13 ≡ false) × (endsField 32 ≡ false)
 ends = (refl, refl, refl, refl)
+
+-- four bytes of a text at once: "4200"; a leading zero and a letter give 0
+pub read-fours : (readFour 52 50 48 48 ≡ record { spelt = true; number = 4200 }) × (readFour 48 52 50 48 ≡ record { spelt = false; number = 0 })
+    × (readFour 52 50 97 48 ≡ record { spelt = false; number = 0 })
+unfolding spellsFour valued
+read-fours = (refl, refl, refl)
+
+-- four digits and a tab, also behind a letter; a newline behind them, a leading zero, a letter, three digits, five, and only four bytes left
+pub tabbed-fours : (fourTabbed (quoted "4200\t") 0 ≡ record { spelt = true; number = 4200 })
+    × (fourTabbed (quoted "S\t9876\t1") 2 ≡ record { spelt = true; number = 9876 }) × (fourTabbed (quoted "4200\n") 0 ≡ record { spelt = false; number = 0 })
+    × (fourTabbed (quoted "0420\t") 0 ≡ notFour) × (fourTabbed (quoted "42a0\t") 0 ≡ notFour) × (fourTabbed (quoted "420\t9") 0 ≡ notFour)
+    × (fourTabbed (quoted "42001\t") 0 ≡ notFour) × (fourTabbed (quoted "4200") 0 ≡ notFour) × (fourTabbed (quoted "4200\t") 1 ≡ notFour)
+unfolding fourTabbed spellsFour valued
+tabbed-fours = (refl, refl, refl, refl, refl, refl, refl, refl, refl)

@@ -1,7 +1,7 @@
 -- Four bytes held in one number: a test of all four at once, and the number that they spell.
 use Prim.Native.Nat.{ℕ, zero, suc, _+_, _*_, _/_, _%_, _<_, _≤_}
 use mathlib.Core.Path.{_≡_, refl, sym, ap, ap₂, _∙_}
-use mathlib.Core.Bool.{Bool, true, not, _&&_, _||_}
+use mathlib.Core.Bool.{Bool, true, false, cond, not, _&&_, _||_}
 use mathlib.Core.Logic.{⊎-elim}
 use native.Mathlib.Nat.{not-suc-le-zero, eq-or-lt-of-le, le-of-suc-le-suc}
 use native.Mathlib.Omega.{arith}
@@ -9,6 +9,7 @@ use lib.Dec.{leb, eqb, lit<}
 use lib.Bits.{bitAnd, bitOr, bitXor, or-block, and-block, xor-block, or-lt, xor-lt}
 use borrow.Author.Tests.{leb-true, le-leb, eq-eqb, eqb-true}
 use Rattle.laws.specs.Tests.{and-left, and-right}
+use Rattle.text_number_at.specs.declared.FourRead.{FourRead}
 
 -- four bytes as one number, the first one lowest
 abbrev pub together : ℕ → ℕ → ℕ → ℕ → ℕ
@@ -21,6 +22,18 @@ spellsFour x = eqb (bitAnd (bitOr (x + 0x76767676) (x + 0xFFFFFFFF)) 0x80808080)
 -- the number that the code makes of four digits
 unfoldable pub valued : ℕ → ℕ
 valued x = (10 * x + x / 256) % 256 * 100 + (10 * x + x / 256) / 65536 % 256
+
+-- what the code says of four bytes held so: whether they spell a number that does not begin with 0, and the number, or 0
+abbrev pub readHeld : ℕ → FourRead
+readHeld x = record { spelt = spellsFour x; number = cond (spellsFour x) (valued x) 0 }
+
+-- the same of four bytes of a text; 0x30303030 is '0' four times
+abbrev pub readFour : ℕ → ℕ → ℕ → ℕ → FourRead
+readFour a b c d = readHeld (bitXor (together a b c d) 0x30303030)
+
+-- nothing was read
+abbrev pub notFour : FourRead
+notFour = record { spelt = false; number = 0 }
 
 -- the four bytes are digits, the first one is not 0, and v is the number that they spell
 pub record Spelt (a b c d v : ℕ) : Type 0 where
@@ -236,3 +249,16 @@ module _ (a b c d x : ℕ) (ha : a < 256) (hb : b < 256) (hc : c < 256) (hd : d 
         in-all : (a b c d A B C D v : ℕ) → a ≡ A + 48 → b ≡ B + 48 → c ≡ C + 48 → d ≡ D + 48 → v ≡ A * 1000 + B * 100 + C * 10 + D
             → v + 53328 ≡ a * 1000 + b * 100 + c * 10 + d
         in-all a b c d A B C D v ea eb ec ed e = omega arith
+
+-- ---- what the code says of them
+
+module _ (x : ℕ) where
+  pub held-spelt : (v : ℕ) → spellsFour x ≡ true → v ≡ valued x → record { spelt = true; number = v } ≡ readHeld x
+  held-spelt v t e = rw (t, e)
+
+  pub held-not : spellsFour x ≡ false → notFour ≡ readHeld x
+  held-not t = rw t
+
+-- four bytes that are said to spell a number do
+pub four-spelt : (a b c d : ℕ) → a < 256 → b < 256 → c < 256 → d < 256 → readFour a b c d .spelt ≡ true → Spelt a b c d (readFour a b c d .number)
+four-spelt a b c d ha hb hc hd t = spelt-is a b c d (bitXor (together a b c d) 0x30303030) ha hb hc hd refl t _ (rw t)

@@ -17,7 +17,8 @@ use Rattle.text_fields.specs.Spelling.{decimal-lacks}
 use Rattle.text_numbers.specs.Canonical.{number-text}
 use Rattle.text_numbers.specs.declared.Number.{Number}
 use Rattle.text_numbers.specs.declared.Number.the-variants.{Value, Malformed}
-use Rattle.text_number_at.specs.Four.{Spelt}
+use Rattle.text_number_at.specs.Four.{Spelt, readFour, four-spelt}
+use Rattle.text_number_at.specs.declared.FourRead.{FourRead}
 use Rattle.text_number_at.specs.declared.FieldNumber.{FieldNumber}
 use Rattle.text_number_at.specs.declared.FieldNumber.the-variants as field
 
@@ -66,6 +67,10 @@ module _ (line : List ℕ) (from : ℕ) where
 abbrev pub fourAt : List ℕ → ℕ → List ℕ
 fourAt line from = getD line from 0 ∷ getD line (from + 1) 0 ∷ getD line (from + 2) 0 ∷ getD line (from + 3) 0 ∷ []
 
+-- what the code says of them
+abbrev pub readFourAt : List ℕ → ℕ → FourRead
+readFourAt line from = readFour (getD line from 0) (getD line (from + 1) 0) (getD line (from + 2) 0) (getD line (from + 3) 0)
+
 -- whether four bytes are left from a place on, and behind them the end or a tab
 abbrev pub fourLeft : List ℕ → ℕ → Bool
 fourLeft line from = leb (from + 4) (length line) && (leb (length line) (from + 4) || eqb (getD line (from + 4) 0) 9)
@@ -92,6 +97,15 @@ four-value a b c d v s =
     ∙ digit-on c lc hc ((0 * 10 + (a - 48)) * 10 + (b - 48)) (d ∷ []) (omega arith)
     ∙ digit-on d ld hd (((0 * 10 + (a - 48)) * 10 + (b - 48)) * 10 + (c - 48)) [] (omega arith)
     ∙ ap Value e)
+
+-- bytes that are said to spell a number are read as that number
+pub four-read : (line : List ℕ) (from : ℕ) → ((i : ℕ) → getD line i 0 < 256) → (r : FourRead) → r ≡ readFourAt line from → r .spelt ≡ true
+    → readNumber (fourAt line from) ≡ Value (r .number)
+four-read line from h r e s =
+    four-value (getD line from 0) (getD line (from + 1) 0) (getD line (from + 2) 0) (getD line (from + 3) 0) (r .number)
+    (rw e
+    (four-spelt (getD line from 0) (getD line (from + 1) 0) (getD line (from + 2) 0) (getD line (from + 3) 0)
+    (h from) (h (from + 1)) (h (from + 2)) (h (from + 3)) (rw e at s)))
 
 -- the text of a number has no tab
 number-lacks : (f : List ℕ) (v : ℕ) → readNumber f ≡ Value v → lacks 9 f ≡ true

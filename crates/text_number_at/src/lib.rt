@@ -1,14 +1,10 @@
 // Numbers read in place: the field that starts at a place of a line. Most numbers of a log have four digits, and those are read at once.
 ghost use mathlib.Core.Path.{_≡_};
-ghost use mathlib.Core.Bool.{true};
-ghost use mathlib.Core.List.{[], _∷_};
 ghost use Prim.Native.Nat.{_+_, _-_, _<_, _≤_};
 ghost use lib.ListN.{length};
-ghost use Rattle.text_numbers.specs.Numbers.{readNumber};
-ghost use Rattle.text_numbers.specs.declared.Number.the-variants.{Value};
-ghost use Rattle.text_number_at.specs.Four.{together, spellsFour, valued};
-ghost use Rattle.text_number_at.specs.NumberAt.{fourAt, fourLeft, numberAt};
-ghost use Rattle.text_number_at.specs.Along.{endAlong, endsField, fourEnded, numberAlong};
+ghost use Rattle.text_number_at.specs.Four.{together, spellsFour, valued, readFour};
+ghost use Rattle.text_number_at.specs.NumberAt.{readFourAt, fourLeft, numberAt};
+ghost use Rattle.text_number_at.specs.Along.{endAlong, endsField, fourEnded, fourTabbed, numberAlong};
 use laws::wide;
 use text_fields::field;
 use text_numbers::Number;
@@ -45,14 +41,14 @@ fn valued(x: u32) -> u16
 }
 
 // Four bytes read at once: whether they spell a number that does not begin with 0, and the number; if not, it is 0.
-struct FourRead {
-    spelt: bool,
-    number: u16,
+pub struct FourRead {
+    pub spelt: bool,
+    pub number: u16,
 }
 
 // Four bytes read at once. 0x30303030 is b'0' four times.
 fn four(a: u8, b: u8, c: u8, d: u8) -> FourRead
-    ensures { λ r. ⌜ (r .spelt ≡ true → readNumber (a ∷ b ∷ c ∷ d ∷ []) ≡ Value (r .number)) ⌝ }
+    ensures { λ r. ⌜ r ≡ readFour a b c d ⌝ }
 {
     let x = together(a, b, c, d) ^ 0x30303030;
     if spells_four(x) {
@@ -70,7 +66,7 @@ fn four(a: u8, b: u8, c: u8, d: u8) -> FourRead
 // The same for the four bytes from `from` on.
 fn four_at(line: &[u8], from: usize) -> FourRead
     requires { ⌜ from + 4 ≤ length (now line) ⌝ }
-    ensures { λ r. ⌜ (r .spelt ≡ true → readNumber (fourAt (now (line .entry)) from) ≡ Value (r .number)) ⌝ }
+    ensures { λ r. ⌜ r ≡ readFourAt (now (line .entry)) from ⌝ }
 {
     four(line[from], line[from + 1], line[from + 2], line[from + 3])
 }
@@ -193,4 +189,20 @@ pub fn number_along(bytes: &[u8], from: usize) -> FieldNumber
         }
     }
     along_slowly(bytes, from)
+}
+
+// Four digits and a tab at `from`, read at once: most numbers of a line stand so. Where the first digit is 0, or anything else stands there,
+// nothing is read.
+pub fn four_tabbed(bytes: &[u8], from: usize) -> FourRead
+    ensures { λ r. ⌜ r ≡ fourTabbed (now (bytes .entry)) from ⌝ }
+{
+    if from < with_five_left(bytes.len()) {
+        if bytes[from + 4] == b'\t' {
+            return four_at(bytes, from);
+        }
+    }
+    FourRead {
+        spelt: false,
+        number: 0,
+    }
 }

@@ -1,11 +1,9 @@
--- `four` meets its contract: four bytes that pass the test are the digits of a number.
-use mathlib.Core.Path.{refl, sym, ap, _∙_}
+-- `four` meets its contract: each way out settles the test of the definition.
+use mathlib.Core.Path.{sym, ap, _∙_}
 use Prim.Native.Nat.{ℕ}
 use lib.Bits.{bitXor}
 use borrow.Author.Needs.{needs}
-use Rattle.laws.specs.Tests.{clash}
-use Rattle.text_number_at.specs.Four.{nine-most, spelt-is}
-use Rattle.text_number_at.specs.NumberAt.{four-value}
+use Rattle.text_number_at.specs.Four.{readHeld, nine-most, held-spelt, held-not}
 use Rattle.text_number_at.proofs.four.Statement.{statement}
 use Rattle.text_number_at.proofs.four.Tie as tie
 
@@ -23,16 +21,16 @@ valued-requires c κs =
     (ap (λ (y : ℕ). bitXor y 0x30303030) (d .before .together .ensures)) (sym (d .spells-four .ensures) ∙ c .if1 .taken)
 
 returns : tie.Need-returns
-returns c some =
+returns c =
     let d = c .before .before in
-    let s = d .before .before .args in
-    four-value _ _ _ _ _
-    (spelt-is (s .a) (s .b) (s .c) (s .d) _ (search needs) (search needs) (search needs) (search needs)
-    (ap (λ (y : ℕ). bitXor y 0x30303030) (d .before .together .ensures)) (sym (d .spells-four .ensures) ∙ c .before .if1 .taken)
-    _ (c .valued .ensures))
+    held-spelt _ _ (sym (d .spells-four .ensures) ∙ c .before .if1 .taken) (c .valued .ensures)
+    ∙ ap (λ (y : ℕ). readHeld (bitXor y 0x30303030)) (d .before .together .ensures)
 
 returns-2 : tie.Need-returns-2
-returns-2 c some = clash some refl
+returns-2 c =
+    let d = c .before in
+    held-not _ (sym (d .spells-four .ensures) ∙ c .if1 .left)
+    ∙ ap (λ (y : ℕ). readHeld (bitXor y 0x30303030)) (d .before .together .ensures)
 
 pub four-spec : {M : Type 1} → statement M
 four-spec =

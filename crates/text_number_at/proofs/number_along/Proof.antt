@@ -2,6 +2,7 @@
 use mathlib.Core.Path.{sym, _∙_}
 use Prim.Native.Nat.{_+_}
 use native.Mathlib.Omega.{arith}
+use Rattle.text_number_at.specs.NumberAt.{four-read}
 use Rattle.text_number_at.specs.Along.{ended-within, along-quick}
 use borrow.Author.Needs.{needs}
 use Rattle.text_number_at.proofs.number_along.Statement.{statement}
@@ -21,7 +22,7 @@ add-t6 c = let a = c .before .before .before .before .before .args in
 returns : tie.Need-returns
 returns c = let a = c .before .before .before .before .before .args in
     along-quick (a .bytes .now) (a .from) (sym (c .before .before .before .four-ended .ensures) ∙ c .before .before .if1 .taken)
-    _ (c .before .four-at .ensures (c .if2 .taken))
+    _ (four-read (a .bytes .now) (a .from) (λ i. c .before .before .before .before .shared-slice-known .given i .fits) _ (c .before .four-at .ensures) (c .if2 .taken))
 
 along-slowly-requires : tie.Need-along-slowly-requires
 along-slowly-requires c κs = search needs

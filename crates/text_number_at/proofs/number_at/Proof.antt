@@ -2,7 +2,7 @@
 use mathlib.Core.Path.{sym, _∙_}
 use Prim.Native.Nat.{_+_}
 use native.Mathlib.Omega.{arith}
-use Rattle.text_number_at.specs.NumberAt.{four-within, four-quick}
+use Rattle.text_number_at.specs.NumberAt.{four-read, four-within, four-quick}
 use borrow.Author.Needs.{needs}
 use Rattle.text_number_at.proofs.number_at.Statement.{statement}
 use Rattle.text_number_at.proofs.number_at.Tie as tie
@@ -21,7 +21,7 @@ add-t6 c = let a = c .before .before .before .before .before .args in
 returns : tie.Need-returns
 returns c = let a = c .before .before .before .before .before .args in
     four-quick (a .line .now) (a .from) (sym (c .before .before .before .four-left .ensures) ∙ c .before .before .if1 .taken)
-    _ (c .before .four-at .ensures (c .if2 .taken))
+    _ (four-read (a .line .now) (a .from) (λ i. c .before .before .before .before .shared-slice-known .given i .fits) _ (c .before .four-at .ensures) (c .if2 .taken))
 
 number-slowly-requires : tie.Need-number-slowly-requires
 number-slowly-requires c κs = search needs
