@@ -23,7 +23,7 @@ use Rattle.pack_state.specs.declared.Pack.{Pack}
 use Rattle.pack.specs.Events.{Event, offer, command, accepts, withEvent, pastOf}
 use Rattle.pack_state.specs.State.{latestAfter, stateAfter}
 use Rattle.pack.specs.Kept.{Kept, pageOf, packAfter}
-use Rattle.pack.specs.Calls.{page-good}
+use Rattle.pack.specs.Calls.{page-good, kept-watched}
 use Rattle.bus_words.specs.Words.{sumTo, sumWord, Bounded}
 
 -- Cells that fit are 6000 mV at most.
@@ -110,4 +110,5 @@ kept-bounded p k =
     record {
       sum = rw (k .is) (latest-most (pageOf (k .bytes) .rules .n) (k .events));
       voltage = rw (k .is) (voltage-most (k .bytes));
+      watched = kept-watched p k;
     }

@@ -24,7 +24,7 @@ use Rattle.bleed_wants.specs.Wants.{isCharging}
 use Rattle.page_settings.specs.declared.Settings.{Settings}
 use Rattle.pack_state.specs.declared.Pack.{Pack}
 use Rattle.pack_state.specs.Past.{Past}
-use Rattle.pack_state.specs.State.{latestAfter, bledAfter}
+use Rattle.pack_state.specs.State.{latestAfter, bledAfter, Watched}
 use Rattle.pack_shown.specs.Shown.{switchAfter, switchesOf, modeAfter, modeOf}
 use Rattle.bus_table.specs.declared.Sends.{Sends}
 use Rattle.bus_table.specs.declared.Sends.the-variants.{Nothing, Cell, Whole}
@@ -176,10 +176,11 @@ saidOf p =
       on = hasBit (switchesOf p);
     }
 
--- What the words of a state are bounded by: ten cells of 6000 mV.
+-- What the words of a state rest on: ten cells of 6000 mV, and that it keeps what its protections say.
 pub record Bounded (p : Pack) : Type 0 where
   pub sum : sumWord (p .latest) ≤ 60000
   pub voltage : p .rules .n * p .rules .voltage .0 ≤ 60000
+  pub watched : Watched p
 
 -- ---- what the code needs of them
 

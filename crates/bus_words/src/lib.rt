@@ -6,6 +6,7 @@ ghost use Rattle.laws.specs.Bits.{hasBit};
 ghost use Rattle.units.specs.Cells.{tenAtMost};
 ghost use Rattle.sample.specs.Cells.{extremesOf};
 ghost use Rattle.guard_raised.specs.Words.{blocksAny};
+ghost use Rattle.pack_state.specs.State.{Watched};
 ghost use Rattle.pack.specs.Kept.{Kept};
 ghost use Rattle.bus_words.specs.Words.{sumTo, sumWord, numbersWord, cellWord, heatRaised, packWord, sentWord, saidOf, statusOf, raisedOrOn, raisedAndSwitches, Bounded};
 use bleed_wants::is_charging;
@@ -141,6 +142,7 @@ fn raised_or_on(raised: u16, on: u16, i: u8) -> bool
 
 // The raised protections, and the switches that are on.
 fn raised_and_switches(p: Pack) -> u16
+    requires { ⌜ Watched p ⌝ }
     ensures { λ r. ⌜ r ≡ raisedAndSwitches (saidOf p) ⌝ }
 {
     let ps = p.protections;

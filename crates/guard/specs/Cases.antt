@@ -167,12 +167,12 @@ at-load = refl
 
 -- ---- some of the protections stepped
 
-abbrev standing : List Limits → List Alarm → List Protection
+abbrev pub standing : List Limits → List Alarm → List Protection
 standing [] rest = []
 standing (l ∷ ls) [] = []
 standing (l ∷ ls) (a ∷ rest) = record { limits = l; alarm = a } ∷ standing ls rest
 
-abbrev mixedLimits : List Limits
+abbrev pub mixedLimits : List Limits
 mixedLimits =
     limited (pos 4250) (pos 4150) 3 2 1
     ∷ limited (pos 3000) (pos 3200) 3 2 2

@@ -4,16 +4,11 @@ use mathlib.Core.Path.{sym, _∙_}
 use Rattle.laws.specs.Unique.{Unique}
 use Rattle.guard_raised.proofs.raised_word.Reads as raised-word
 use Rattle.guard_raised.proofs.raised_word.Kinds as raised-word-kinds
-use Rattle.guard_raised.proofs.any_raised.Reads as any-raised
-use Rattle.guard_raised.proofs.any_raised.Kinds as any-raised-kinds
 use Rattle.guard_raised.proofs.blocks.Reads as blocks
 use Rattle.guard_raised.proofs.blocks.Kinds as blocks-kinds
 
 raised-word-one : Unique 0 raised-word-kinds.ps raised-word-kinds.r raised-word.Post
 raised-word-one κs a x y s t p q = p ∙ sym q
-
-any-raised-one : Unique 0 any-raised-kinds.ps any-raised-kinds.r any-raised.Post
-any-raised-one κs a x y s t p q = p ∙ sym q
 
 blocks-one : Unique 0 blocks-kinds.ps blocks-kinds.r blocks.Post
 blocks-one κs a x y s t p q = p ∙ sym q

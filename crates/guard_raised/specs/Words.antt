@@ -48,6 +48,11 @@ raisedWord ps = bitsOf (raisedAt ps) protections
 unfoldable pub anyRaised : List Protection → Bool
 anyRaised ps = anyOf (raisedAt ps) protections
 
+-- No protection is raised exactly if the word is 0.
+pub anyRaised-word : (ps : List Protection) → anyRaised ps ≡ not (eqb (raisedWord ps) 0)
+unfolding anyRaised raisedWord
+anyRaised-word ps = any-bits (raisedAt ps) protections (omega arith)
+
 -- A raised protection blocks a switch if it has its mask bit.
 unfoldable pub blocksOne : ℕ → Protection → Bool
 blocksOne switch p = isRaised (p .alarm) && hasBit (p .limits .mask) switch

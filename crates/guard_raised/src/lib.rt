@@ -1,7 +1,7 @@
-// What the raised protections say: the word of them, whether there is one, and which switches they block.
+// What the raised protections say: the word of them, and which switches they block.
 ghost use mathlib.Core.Path.{_≡_};
 ghost use Rattle.guard.specs.Runs.{isRaised};
-ghost use Rattle.guard_raised.specs.Words.{raisedWord, anyRaised, blocksOne, blocksAny};
+ghost use Rattle.guard_raised.specs.Words.{raisedWord, blocksOne, blocksAny};
 use guard::rule::Alarm;
 use guard::rule::Protection;
 use laws::has_bit;
@@ -30,13 +30,6 @@ pub fn raised_word(ps: [Protection; PROTECTIONS]) -> u16
         i += 1;
     }
     w
-}
-
-// Whether a protection is raised.
-pub fn any_raised(ps: [Protection; PROTECTIONS]) -> bool
-    ensures { λ r. ⌜ r ≡ anyRaised ps ⌝ }
-{
-    raised_word(ps) != 0
 }
 
 // Whether this protection is raised and its mask has the switch's bit.

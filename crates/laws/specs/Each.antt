@@ -8,7 +8,7 @@ use native.Mathlib.Numerals.{add-one}
 use native.Mathlib.Nat.{eq-or-lt-of-le, le-of-suc-le-suc, not-suc-le-zero}
 use mathlib.Core.Logic.{⊎-elim}
 use lib.ListN.{length, getD, set, length-set}
-use lib.Seq.{getD-set-same, getD-set-other}
+use lib.Seq.{getD-set-same, getD-set-other, set-getD}
 
 module _ {A : Type 0} (z : A) (f : ℕ → A → A) where
   unfoldable pub eachTo : ℕ → List A → List A
@@ -40,6 +40,12 @@ module _ {A : Type 0} (z : A) (f : ℕ → A → A) where
       (λ (e : k ≡ n). let lt : n < length (eachTo n l) = rw (each-length n l) (omega arith) in rw (e, getD-set-same) (ap (f n) (each-above n l n (omega arith))))
       (λ (lt : k < n). let ne : k ≡ n → ⊥ = λ e. omega arith in rw getD-set-other (each-below n l k (omega arith) lt))
       (eq-or-lt-of-le (le-of-suc-le-suc q))
+
+  -- Where no step changes its entry, the array is as it was.
+  pub each-same : (n : ℕ) (l : List A) → ((k : ℕ) → k < n → f k (getD l k z) ≡ getD l k z) → eachTo n l ≡ l
+  unfolding eachTo
+  each-same zero l same = refl
+  each-same (suc n) l same = rw (each-same n l (λ k q. same k (omega arith)), same n (omega arith)) (set-getD l n z)
 
   -- The k entries from n on are stepped, the others are as they were.
   unfoldable pub eachFrom : ℕ → ℕ → List A → List A

@@ -23,6 +23,7 @@ pub struct Outcome {
 }
 
 fn outcome_of(kind: Kind, a: Answered) -> Outcome
+    requires { ⌜ Kept (a .pack) ⌝ }
     ensures { λ r. ⌜ r ≡ outcomeOf kind a ⌝ }
 {
     let verdict = a.verdict;

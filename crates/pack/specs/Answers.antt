@@ -25,6 +25,7 @@ withCommand p c =
     record {
       rules = p .rules;
       protections = p .protections;
+      watch = p .watch;
       balance = p .balance;
       latest = p .latest;
       sampled = p .sampled;

@@ -20,7 +20,7 @@ use Rattle.page_settings.specs.declared.Loaded.{Loaded}
 use Rattle.page_settings.specs.Settings.{settingsOf, noSettings, loadedOf, loadedWith}
 use Rattle.page_settings.specs.Good.{Good, accepted-good}
 use Rattle.pack_state.specs.declared.Pack.{Pack}
-use Rattle.pack_state.specs.State.{stateAfter, freshPack, acceptedPack}
+use Rattle.pack_state.specs.State.{stateAfter, freshPack, acceptedPack, Watched, state-watched}
 use Rattle.pack_state.specs.Steps.{state-next, state-fresh}
 use Rattle.pack.specs.declared.Answered.{Answered}
 use Rattle.pack.specs.Events.{Event, offer, command, accepts, withEvent, pastOf}
@@ -90,6 +90,11 @@ kept-command p c k =
       events = command c ∷ k .events;
       is = ap (λ (q : Pack). commanded q c .pack) (k .is) ∙ ap (λ (a : Answered). a .pack) (commanded-is (k .bytes) (k .events) c);
     }
+
+-- A state that a load or a later call handed back keeps what its protections say.
+pub kept-watched : (p : Pack) → Kept p → Watched p
+unfolding packAfter
+kept-watched p k = rw (k .is) (state-watched (pageOf (k .bytes)) (pastAfter (k .bytes) (k .events)))
 
 -- ---- the ends of the calls, in the code's own terms: the answer, its number and word, and what it hands on
 

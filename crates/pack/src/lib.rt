@@ -8,6 +8,7 @@ ghost use Rattle.pack_state.specs.State.{freshBalance, freshPack};
 ghost use Rattle.pack.specs.Answers.{offered, commanded};
 ghost use Rattle.pack.specs.Kept.{Kept, afterLoad};
 use guard::all::fresh;
+use guard_watch::watch_of;
 use pack_refusals::command_verdict;
 use pack_refusals::sample_verdict;
 use pack_refusals::trim;
@@ -44,11 +45,13 @@ fn fresh_pack(s: Settings) -> Pack
     let rules = s.rules;
     let limits = s.limits;
     let protections = fresh(limits);
+    let watch = watch_of(protections);
     let balance = fresh_balance();
     let latest = no_sample();
     Pack {
         rules: rules,
         protections: protections,
+        watch: watch,
         balance: balance,
         latest: latest,
         sampled: false,

@@ -5,5 +5,3 @@ pub mod Shown
 pub mod Cases
 -- What the state of a past shows is what document 01 says of that past.
 pub mod Decided
--- Where no protection is raised the switches are the commanded ones.
-pub mod Quiet

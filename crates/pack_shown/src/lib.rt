@@ -1,11 +1,10 @@
 // What the state of a pack shows: the switches, the mode, and the five fields of a line of the replay.
 ghost use mathlib.Core.Path.{_≡_};
+ghost use Prim.Native.Nat.{_<_};
 ghost use Rattle.laws.specs.Bits.{hasBit};
-ghost use Rattle.guard_raised.specs.Words.{raisedWord};
+ghost use Rattle.pack_state.specs.State.{Watched};
 ghost use Rattle.pack_shown.specs.Shown.{switchOn, switchesOf, modeNumber, modeOrder, firstMode, flowMode, modeOf, decisionOf};
 use bleed_wants::is_charging;
-use guard_raised::blocks;
-use guard_raised::raised_word;
 use laws::has_bit;
 use laws::with_bit_if;
 use pack_state::Pack;
@@ -24,12 +23,13 @@ pub struct Decision {
 
 // Whether a switch is on: 0 is charge, 1 is discharge.
 fn switch_on(p: Pack, switch: u8) -> bool
+    requires { ⌜ Watched p × (switch < 2) ⌝ }
     ensures { λ r. ⌜ r ≡ switchOn p switch ⌝ }
 {
     if p.sampled {
         if has_bit(p.command as u16, switch) {
-            let ps = p.protections;
-            return !blocks(ps, switch);
+            let w = p.watch;
+            return !has_bit(w.blocked, switch);
         }
     }
     false
@@ -37,6 +37,7 @@ fn switch_on(p: Pack, switch: u8) -> bool
 
 // The switches that are on: bit 0 charge, bit 1 discharge.
 pub fn switches(p: Pack) -> u16
+    requires { ⌜ Watched p ⌝ }
     ensures { λ r. ⌜ r ≡ switchesOf p ⌝ }
 {
     let charge = with_bit_if(0, 0, switch_on(p, 0));
@@ -91,46 +92,31 @@ fn flow_mode(charging: bool) -> u8
 
 // The mode, as command 0x41 sends it.
 pub fn mode(p: Pack) -> u16
+    requires { ⌜ Watched p ⌝ }
     ensures { λ r. ⌜ r ≡ modeOf p ⌝ }
 {
     if p.sampled {
         let rules = p.rules;
         let latest = p.latest;
         let other = flow_mode(is_charging(rules.detection, latest.current));
-        let ps = p.protections;
-        let raised = raised_word(ps);
-        return first_mode(raised, other) as u16;
+        let w = p.watch;
+        return first_mode(w.raised, other) as u16;
     }
     0
 }
 
-// The switches that are on, where `raised` is the word of raised protections. With none raised nothing is blocked, and they are the
-// commanded ones.
-fn switches_with(p: Pack, raised: u16) -> u16
-    requires { ⌜ raised ≡ raisedWord (p .protections) ⌝ }
-    ensures { λ r. ⌜ r ≡ switchesOf p ⌝ }
-{
-    if raised == 0 {
-        if p.sampled {
-            return p.command as u16 % 4;
-        }
-        return 0;
-    }
-    switches(p)
-}
-
 // The five fields of a line of the replay.
 pub fn decide(p: Pack) -> Decision
+    requires { ⌜ Watched p ⌝ }
     ensures { λ r. ⌜ r ≡ decisionOf p ⌝ }
 {
-    let ps = p.protections;
+    let w = p.watch;
     let b = p.balance;
-    let raised = raised_word(ps);
-    let fets = switches_with(p, raised);
+    let fets = switches(p);
     let mode = mode(p);
     Decision {
         tick: p.tick,
-        raised: raised,
+        raised: w.raised,
         fets: fets,
         balance: b.bled,
         mode: mode,

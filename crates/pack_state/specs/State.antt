@@ -1,5 +1,6 @@
 -- The state of a pack: what document 01 says of it from the page and the history, and the step that the code takes.
 -- Assumes nothing.
+use mathlib.Core.Path.{_≡_, refl}
 use mathlib.Core.Bool.{Bool, true, false, cond}
 use mathlib.Core.List.{List, [], _∷_}
 use Prim.Native.Nat.{ℕ, _+_, _-_, _%_}
@@ -12,6 +13,7 @@ use Rattle.sample.specs.None.{noSample}
 use Rattle.sample.specs.declared.Extremes.{Extremes}
 use Rattle.guard.specs.Steps.{protectionsAfter, stepAllBy}
 use Rattle.guard_raised.specs.Words.{anyRaisedAfter, anyRaised}
+use Rattle.guard_watch.specs.Watch.{watchOf}
 use Rattle.page_settings.specs.declared.Rules.{Rules}
 use Rattle.page_settings.specs.declared.Settings.{Settings}
 use Rattle.bleed_wants.specs.Wants.{isCharging}
@@ -86,12 +88,21 @@ module _ (page : Settings) where
       record {
         rules = page .rules;
         protections = protectionsAfter (page .limits) (p .history);
+        watch = watchOf (protectionsAfter (page .limits) (p .history));
         balance = balanceAfter (p .history);
         latest = latestAfter (p .history);
         sampled = anySample (p .history);
         command = p .standing;
         tick = tickAfter (p .history);
       }
+
+-- What is kept beside the protections is what they say. It is so of every state that a past stands for.
+abbrev pub Watched : Pack → Type 0
+Watched p = p .watch ≡ watchOf (p .protections)
+
+pub state-watched : (page : Settings) (p : Past) → Watched (stateAfter page p)
+unfolding stateAfter
+state-watched page p = refl
 
 -- ---- the step that the code takes
 
@@ -115,19 +126,20 @@ nextBalance r want b =
       runs = nextRuns (chosenWord (r .n) (r .k) want (restingWord (r .n) (r .r) (b .bled) (b .runs)) (b .start .0)) (b .runs);
     }
 
--- The word of the cells that want bleeding at a sample whose highest and lowest cell are e, by the protections after it.
-unfoldable pub wantAt : Rules → Sample → Extremes → List Protection → ℕ
-wantAt r s e ps =
-    wantingWord (r .n) (isCharging (r .detection) (s .current)) (anyRaised ps) (r .floor .0) (r .difference .0) (e .lowest .volts .0) (s .cells)
+-- The word of the cells that want bleeding at a sample whose highest and lowest cell are e, by whether a protection is raised after it.
+unfoldable pub wantAt : Rules → Sample → Extremes → Bool → ℕ
+wantAt r s e raised =
+    wantingWord (r .n) (isCharging (r .detection) (s .current)) raised (r .floor .0) (r .difference .0) (e .lowest .volts .0) (s .cells)
 
 -- The pack after an accepted sample, of which `s` is kept: "protections first, then bleeding with the new protections".
 unfoldable pub acceptedPack : Pack → Sample → Pack
 acceptedPack p s =
     let stepped : List Protection = stepAllBy s (p .protections) in
-    let want : ℕ = wantAt (p .rules) s (extremesOf (s .cells) (s .count)) stepped in
+    let want : ℕ = wantAt (p .rules) s (extremesOf (s .cells) (s .count)) (anyRaised stepped) in
     record {
       rules = p .rules;
       protections = stepped;
+      watch = watchOf stepped;
       balance = nextBalance (p .rules) want (p .balance);
       latest = s;
       sampled = true;
@@ -141,6 +153,7 @@ freshPack page =
     record {
       rules = page .rules;
       protections = protectionsAfter (page .limits) [];
+      watch = watchOf (protectionsAfter (page .limits) []);
       balance = freshBalance;
       latest = noSample;
       sampled = false;

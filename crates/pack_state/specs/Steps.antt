@@ -17,7 +17,8 @@ use Rattle.guard.specs.declared.rule.Protection.{Protection}
 use Rattle.protections.specs.Limits.{AllGood}
 use Rattle.guard.specs.Steps.{protectionsAfter}
 use Rattle.guard.specs.StepLaws.{protections-step}
-use Rattle.guard_raised.specs.Words.{anyRaised-is}
+use Rattle.guard_raised.specs.Words.{anyRaised, anyRaised-is}
+use Rattle.guard_watch.specs.Watch.{watchOf}
 use Rattle.page_settings.specs.declared.Settings.{Settings}
 use Rattle.page_settings.specs.Good.{Good}
 use Rattle.bleed_wants.specs.Word.{holdsCell, cellsPassing-in}
@@ -53,7 +54,7 @@ balanced a r b s l = record { begun = a; rested = r; bled = b; start = s; runs =
 
 abbrev packed : Rules → List Protection → Balance → Sample → Bool → ℕ → ℕ → Pack
 packed r ps b l any c t =
-    record { rules = r; protections = ps; balance = b; latest = l; sampled = any; command = c; tick = t }
+    record { rules = r; protections = ps; watch = watchOf ps; balance = b; latest = l; sampled = any; command = c; tick = t }
 
 -- Two balances are equal part by part.
 balance-same : {a a′ s s′ : CellNo} {r r′ b b′ : ℕ} {l l′ : List ℕ} → a ≡ a′ → r ≡ r′ → b ≡ b′ → s ≡ s′ → l ≡ l′
@@ -87,7 +88,7 @@ module _ (page : Settings) (good : Good page) where
 
   -- The code's word of the cells that want at a sample.
   abbrev wantOf : Sample → List Protection → ℕ
-  wantOf s ps = wantAt (page .rules) s (extremesOf (s .cells) (s .count)) ps
+  wantOf s ps = wantAt (page .rules) s (extremesOf (s .cells) (s .count)) (anyRaised ps)
 
   -- It shows who wants.
   want-shows : (s : Sample) (h : List Sample)

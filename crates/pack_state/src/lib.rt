@@ -1,15 +1,14 @@
 // The state of a pack: what it holds, and one accepted sample on.
 ghost use mathlib.Core.Path.{_≡_};
-ghost use Rattle.pack_state.specs.State.{nextTick, wantAt, nextBalance, acceptedPack};
+ghost use Rattle.pack_state.specs.State.{nextTick, wantAt, nextBalance, acceptedPack, Watched};
 use bleed::chooser::choose;
 use bleed::resting::next_cell;
 use bleed::resting::next_runs;
 use bleed::resting::resting_word;
 use bleed_wants::is_charging;
 use bleed_wants::wanting_word;
-use guard::all::step_all;
 use guard::rule::Protection;
-use guard_raised::any_raised;
+use guard_watch::Watch;
 use page_settings::Rules;
 use protections::PROTECTIONS;
 use sample::Extremes;
@@ -33,6 +32,7 @@ pub struct Balance {
 pub struct Pack {
     pub rules: Rules,
     pub protections: [Protection; PROTECTIONS],
+    pub watch: Watch,
     pub balance: Balance,
     pub latest: Sample,
     pub sampled: bool,
@@ -51,12 +51,11 @@ fn next_tick(t: u32) -> u32
     0
 }
 
-// The cells that want bleeding, by the protections after the sample.
-fn want_at(r: Rules, s: Sample, e: Extremes, ps: [Protection; PROTECTIONS]) -> u16
-    ensures { λ w. ⌜ w ≡ wantAt r s e ps ⌝ }
+// The cells that want bleeding, by whether a protection is raised after the sample.
+fn want_at(r: Rules, s: Sample, e: Extremes, raised: bool) -> u16
+    ensures { λ w. ⌜ w ≡ wantAt r s e raised ⌝ }
 {
     let charging = is_charging(r.detection, s.current);
-    let raised = any_raised(ps);
     let cells = s.cells;
     wanting_word(
         r.n,
@@ -90,19 +89,25 @@ fn next_balance(r: Rules, want: u16, b: Balance) -> Balance
 
 // The pack after an accepted sample: protections first, then bleeding with the new protections.
 pub fn accept(p: Pack, s: Sample) -> Pack
+    requires { ⌜ Watched p ⌝ }
     ensures { λ r. ⌜ r ≡ acceptedPack p s ⌝ }
 {
     let cells = s.cells;
     let e = extremes_of(cells, s.count);
     let old = p.protections;
-    let protections = step_all(old, s, e);
+    let watched = p.watch;
+    let guarded = guard_watch::step(old, watched, s, e);
+    let protections = guarded.protections;
+    let watch = guarded.watch;
     let rules = p.rules;
-    let want = want_at(rules, s, e, protections);
+    let raised = watch.raised != 0;
+    let want = want_at(rules, s, e, raised);
     let kept = p.balance;
     let balance = next_balance(rules, want, kept);
     Pack {
         rules: rules,
         protections: protections,
+        watch: watch,
         balance: balance,
         latest: s,
         sampled: true,

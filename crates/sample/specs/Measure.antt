@@ -41,7 +41,8 @@ abbrev pub between : Direction → ℤ → ℤ → ℤ → Bool
 between Above trip release v = ltZ release v && ltZ v trip
 between Below trip release v = ltZ trip v && ltZ v release
 
-less-no : (a b : ℤ) → ltZ a b ≡ true → leZ b a ≡ false
+-- A number that is less than another is not reached by it.
+pub less-no : (a b : ℤ) → ltZ a b ≡ true → leZ b a ≡ false
 less-no a b e = by-test (leZ b a) (λ t. clashℤ (ltZ-yes {a = a} {b = b} (rw e tt)) (leZ-yes {a = b} {b = a} (rw t tt))) (λ f. f)
 
 -- It neither trips nor qualifies.

@@ -52,13 +52,13 @@ enum-told-8 : tie.Need-enum-told-8
 enum-told-8 c = search needs
 
 mode-requires : tie.Need-mode-requires
-mode-requires c κs = search needs
+mode-requires c κs = c .before .before .before .before .before .pre .watched
 
 enum-told-9 : tie.Need-enum-told-9
 enum-told-9 c = search needs
 
 raised-and-switches-requires : tie.Need-raised-and-switches-requires
-raised-and-switches-requires c κs = search needs
+raised-and-switches-requires c κs = c .before .before .before .before .before .pre .watched
 
 enum-told-10 : tie.Need-enum-told-10
 enum-told-10 c = search needs

@@ -19,7 +19,7 @@ raised-word-requires : tie.Need-raised-word-requires Inv-loop μ-loop
 raised-word-requires c κs = search needs
 
 switches-requires : tie.Need-switches-requires Inv-loop μ-loop
-switches-requires c κs = search needs
+switches-requires c κs = c .before .before .pre
 
 loop-holds : tie.Need-loop-holds Inv-loop μ-loop
 loop-holds c = (omega arith, bits-none _)

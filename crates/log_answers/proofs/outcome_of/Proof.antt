@@ -1,5 +1,6 @@
 -- `log_answers::outcome_of` meets its contract. Assumes nothing.
 use Rattle.log_answers.specs.Tell.{outcomeOf}
+use Rattle.pack.specs.Calls.{kept-watched}
 use borrow.Author.Needs.{needs}
 use Rattle.log_answers.proofs.outcome_of.Statement.{statement}
 use Rattle.log_answers.proofs.outcome_of.Tie as tie
@@ -8,7 +9,7 @@ enum-told : tie.Need-enum-told
 enum-told c = search needs
 
 decide-requires : tie.Need-decide-requires
-decide-requires c κs = search needs
+decide-requires c κs = kept-watched _ (c .before .before .before .pre)
 
 enum-known-verdict : tie.Need-enum-known-verdict
 enum-known-verdict c = search needs

@@ -8,7 +8,7 @@ answered-by-requires : tie.Need-answered-by-requires
 answered-by-requires c κs = search needs
 
 outcome-of-requires : tie.Need-outcome-of-requires
-outcome-of-requires c κs = search needs
+outcome-of-requires c κs = c .answered-by .ensures .1
 
 returns : tie.Need-returns
 returns c = entry-made _ _ _ _ (c .before .answered-by .ensures .0) (c .outcome-of .ensures) (c .before .answered-by .ensures .1)

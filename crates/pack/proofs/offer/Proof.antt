@@ -1,5 +1,5 @@
 -- `pack::offer` meets its contract. Assumes nothing.
-use Rattle.pack.specs.Calls.{offer-accepted, offer-refused}
+use Rattle.pack.specs.Calls.{kept-watched, offer-accepted, offer-refused}
 use borrow.Author.Needs.{needs}
 use Rattle.pack.proofs.offer.Statement.{statement}
 use Rattle.pack.proofs.offer.Tie as tie
@@ -14,7 +14,7 @@ trim-requires : tie.Need-trim-requires
 trim-requires c κs = search needs
 
 accept-requires : tie.Need-accept-requires
-accept-requires c κs = search needs
+accept-requires c κs = kept-watched _ (c .before .before .before .before .before .pre)
 
 enum-told-2 : tie.Need-enum-told-2
 enum-told-2 c = search needs

@@ -1,5 +1,7 @@
 -- `pack_state::accept` meets its contract. Assumes nothing.
 use Rattle.pack_state.specs.State.{acceptedPack}
+use Rattle.guard_raised.specs.Words.{anyRaised-word}
+use Rattle.guard_watch.specs.Watch.{watchOf, guardedBy}
 use borrow.Author.Needs.{needs}
 use Rattle.pack_state.proofs.accept.Statement.{statement}
 use Rattle.pack_state.proofs.accept.Tie as tie
@@ -7,8 +9,8 @@ use Rattle.pack_state.proofs.accept.Tie as tie
 extremes-of-requires : tie.Need-extremes-of-requires
 extremes-of-requires c κs = search needs
 
-step-all-requires : tie.Need-step-all-requires
-step-all-requires c κs = search needs
+step-requires : tie.Need-step-requires
+step-requires c κs = c .before .before .before .before .pre
 
 want-at-requires : tie.Need-want-at-requires
 want-at-requires c κs = search needs
@@ -20,15 +22,17 @@ next-tick-requires : tie.Need-next-tick-requires
 next-tick-requires c κs = search needs
 
 returns : tie.Need-returns
-unfolding acceptedPack
+unfolding acceptedPack guardedBy watchOf
 returns c =
     let d = c .before .before .before in
+    let g = d .before .before .before .before .before in
     rw (
       c .next-tick .ensures,
       c .before .next-balance .ensures,
       d .want-at .ensures,
-      d .before .before .step-all .ensures,
-      d .before .before .before .before .extremes-of .ensures,
+      g .step .ensures,
+      g .before .before .before .extremes-of .ensures,
+      anyRaised-word,
     )
 
 pub accept-spec : {M : Type 1} → statement M
@@ -36,7 +40,7 @@ accept-spec =
     tie.close
     (tie.spec
     extremes-of-requires
-    step-all-requires
+    step-requires
     want-at-requires
     next-balance-requires
     next-tick-requires

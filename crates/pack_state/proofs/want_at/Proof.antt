@@ -9,9 +9,6 @@ use Rattle.pack_state.proofs.want_at.Tie as tie
 is-charging-requires : tie.Need-is-charging-requires
 is-charging-requires c κs = search needs
 
-any-raised-requires : tie.Need-any-raised-requires
-any-raised-requires c κs = search needs
-
 wanting-word-requires : tie.Need-wanting-word-requires
 wanting-word-requires c κs = search needs
 
@@ -19,12 +16,11 @@ returns : tie.Need-returns
 unfolding wantAt
 returns c = rw (
   c .wanting-word .ensures,
-  c .before .before .any-raised .ensures,
-  c .before .before .before .is-charging .ensures,
-  toZ-ofZ {w = w16} (record { sfits = c .before .before .before .before .before .struct-told .given .1 .1 .1 .1 .1 .0 .1 }),
-  toZ-ofZ {w = w16} (record { sfits = c .before .before .before .before .struct-told2 .given .1 .1 .0 .1 }),
+  c .before .before .is-charging .ensures,
+  toZ-ofZ {w = w16} (record { sfits = c .before .before .before .before .struct-told .given .1 .1 .1 .1 .1 .0 .1 }),
+  toZ-ofZ {w = w16} (record { sfits = c .before .before .before .struct-told2 .given .1 .1 .0 .1 }),
 )
 
 pub want-at-spec : {M : Type 1} → statement M
 want-at-spec =
-    tie.close (tie.spec is-charging-requires any-raised-requires wanting-word-requires returns)
+    tie.close (tie.spec is-charging-requires wanting-word-requires returns)
