@@ -3,12 +3,12 @@
 -- Assumes nothing.
 use mathlib.Core.Bool.{Bool, true, false, not, cond, _&&_}
 use mathlib.Core.List.{List, [], _∷_}
-use mathlib.Core.Path.{_≡_}
+use mathlib.Core.Path.{_≡_, refl}
 use Prim.Native.Nat.{ℕ, _+_, _<_}
 use native.Mathlib.Numerals.{add-one}
 use lib.ListN.{length, drop, getD}
 use lib.Seq.{drop-cons}
-use Rattle.laws.specs.Bits.{hasBit, withBitIf}
+use Rattle.laws.specs.Bits.{hasBit, withBitIf, has-zero}
 use Rattle.units.specs.declared.ProtectionNo.{ProtectionNo}
 use Rattle.protections.specs.Table.{rowAt}
 use Rattle.protections.specs.declared.Mode.{Mode}
@@ -92,6 +92,12 @@ unfoldable pub decisionOf : Pack → Decision
 decisionOf p = decision (p .tick) (raisedWord (p .protections)) (switchesOf p) (p .balance .bled) (modeOf p)
 
 -- ---- what the walk over the order needs
+
+-- Where none is raised the order gives no number.
+pub mode-none : (order : List ProtectionNo) (other : ℕ) → firstMode (hasBit 0) order other ≡ other
+unfolding firstMode
+mode-none [] other = refl
+mode-none (p ∷ ps) other = rw has-zero (mode-none ps other)
 
 module _ (raised : ℕ → Bool) (order : List ProtectionNo) (other i : ℕ) (inside : i < length order) where
   abbrev place : ProtectionNo

@@ -68,6 +68,10 @@ const ORDER: [ProtectionNo; 7] = [
 fn first_mode(raised: u16, other: u8) -> u8
     ensures { λ r. ⌜ r ≡ firstMode (hasBit raised) modeOrder other ⌝ }
 {
+    // Most often none is raised.
+    if raised == 0 {
+        return other;
+    }
     let mut i: usize = 0;
     while i < 7 {
         let p = ORDER[i];
