@@ -63,8 +63,10 @@ fn may_take(most: u8, want: u16, rest: u16, taken: u16, cell: CellNo) -> bool
 fn take_one(most: u8, want: u16, rest: u16, taken: u16, cell: CellNo) -> u16
     ensures { λ r. ⌜ r ≡ takeOne most want rest taken (cell .0) ⌝ }
 {
-    let on = may_take(most, want, rest, taken, cell);
-    with_cell_if(taken, cell, on)
+    if may_take(most, want, rest, taken, cell) {
+        return with_cell_if(taken, cell, true);
+    }
+    taken
 }
 
 // The cell is one of the cells 1 to n, and they are ten at most.

@@ -18,6 +18,10 @@ use Rattle.bleed.specs.Walk.Walk.{has}
 unfoldable pub withCellIf : Bool → ℕ → ℕ → ℕ
 withCellIf b w k = cond (ltb 0 k) (withBitIf b w (k - 1)) w
 
+pub with-cell-not : (w k : ℕ) → withCellIf false w k ≡ w
+unfolding withCellIf withBitIf
+with-cell-not w k = by-test (ltb 0 k) (λ t. rw t) (λ t. rw t)
+
 -- The word of a set: "bit k - 1 for bled cell k".
 abbrev pub cellsWord : List ℕ → ℕ
 cellsWord [] = 0
