@@ -92,15 +92,16 @@ pub words
 unfolding watchOf blockedWord raisedWord blocksAny blocksOne bitsOf anyOf withBitIf withBit hasBit
 words = refl
 
--- One sample on: over voltage goes from a run of 2 to raised, and what is kept is that of the protections then.
+-- One sample on: over voltage goes from a run of 2 to raised, and what is kept is that of the protections then. The cold ones, one raised and one
+-- clear, bound temperature 1.
 pub one-on
-    : let s : Sample = sampled 2 (3100 ∷ 4250 ∷ 0 ∷ 0 ∷ 0 ∷ 0 ∷ 0 ∷ 0 ∷ 0 ∷ 0 ∷ []) (pos 0) 2980 2980 in
-    guardedBy (extremesOf (s .cells) (s .count)) s (standing mixedLimits (Clear 2 ∷ replicate 9 (Clear 0)))
+    : let s : Sample = sampled 2 (3100 ∷ 4250 ∷ 0 ∷ 0 ∷ 0 ∷ 0 ∷ 0 ∷ 0 ∷ 0 ∷ 0 ∷ []) (pos 0) 2700 2980 in
+    guardedBy (extremesOf (s .cells) (s .count)) s (standing mixedLimits (Clear 2 ∷ replicate 7 (Clear 0) ++ Raised 0 ∷ Clear 0 ∷ []))
     ≡ record {
-      protections = standing mixedLimits (Raised 0 ∷ replicate 9 (Clear 0));
+      protections = standing mixedLimits (Raised 0 ∷ replicate 7 (Clear 0) ++ Raised 0 ∷ Clear 0 ∷ []);
       watch = record {
-        bands = from (pos 4150) ceiling ∷ from (pos 3000) ceiling ∷ from (belowZero 5000) (pos 5000) ∷ from (pos 2730) (pos 3200) ∷ from floor (pos 3300) ∷ [];
-        raised = 1;
+        bands = from (pos 4150) ceiling ∷ from (pos 3000) ceiling ∷ from (belowZero 5000) (pos 5000) ∷ from (pos 2630) (pos 2780) ∷ from floor (pos 3300) ∷ [];
+        raised = 257;
         blocked = 1;
       };
     }

@@ -82,7 +82,7 @@ unfolding digitsTo
 digit-on b low high v bs h = rw (le-ltb b 48 low, le-ltb 57 b high, le-ltb _ _ h)
 
 -- four digits, the first of which is not 0
-pub four-value : (a b c d v : ℕ) → Spelt a b c d v → readNumber (a ∷ b ∷ c ∷ d ∷ []) ≡ Value v
+four-value : (a b c d v : ℕ) → Spelt a b c d v → readNumber (a ∷ b ∷ c ∷ d ∷ []) ≡ Value v
 unfolding numberTo digitsTo
 four-value a b c d v s =
     let la = s .first .0 in let ha = s .first .1 in
