@@ -102,8 +102,12 @@ pub fn extremes_of(cells: [MilliVolts; 10], count: u8) -> Extremes
         highest: first,
         lowest: first,
     };
+    // Ten turns, with a return behind the last cell: so the compiler writes the turns out.
     let mut i: usize = 1;
-    while i < n {
+    while i < 10 {
+        if n <= i {
+            return e;
+        }
         let cell = Found {
             number: CellNo((i + 1) as u8),
             volts: cells[i],
