@@ -13,14 +13,17 @@ use Rattle.refusals.specs.Answers.{answerOf}
 use Rattle.refusals.specs.Refusals.{given}
 use Rattle.refusals.specs.declared.Verdict.{Verdict}
 use Rattle.refusals.specs.declared.Verdict.the-variants.{Accepted, Refused}
+use Rattle.sample.specs.declared.Extremes.{Extremes}
 use Rattle.sample.specs.declared.Sample.{Sample}
+use Rattle.sample.specs.Cells.{extremesOf}
+use Rattle.pack_refusals.specs.Agree.{trimmed-extremes}
 use Rattle.pack_refusals.specs.Samples.{sampleRefusals, sampleVerdict, commandRefusals, commandVerdict, trimmed}
 use Rattle.pack_refusals.specs.SampleLaws.{sample-none, command-most}
 use Rattle.page_settings.specs.declared.Loaded.{Loaded}
 use Rattle.page_settings.specs.Settings.{settingsOf, noSettings, loadedOf, loadedWith}
 use Rattle.page_settings.specs.Good.{Good, accepted-good}
 use Rattle.pack_state.specs.declared.Pack.{Pack}
-use Rattle.pack_state.specs.State.{stateAfter, freshPack, acceptedPack, Watched, state-watched}
+use Rattle.pack_state.specs.State.{stateAfter, freshPack, acceptedBy, acceptedPack, Watched, state-watched}
 use Rattle.pack_state.specs.Steps.{state-next, state-fresh}
 use Rattle.pack.specs.declared.Answered.{Answered}
 use Rattle.pack.specs.Events.{Event, offer, command, accepts, withEvent, pastOf}
@@ -110,15 +113,22 @@ load-is bytes l q el eq =
     let judge : l .verdict ≡ judged bytes = ap (λ (x : Loaded). x .verdict) el ∙ verdict-is (judged bytes) bytes in
     (rw (is, el), (judged-answer bytes (l .verdict) judge .1, rw is (kept-load bytes)))
 
+-- What is kept of a sample is accepted by the sample's own highest and lowest cell.
+accepted-kept : (p : Pack) (s : Sample) → acceptedPack p (trimmed s) ≡ acceptedBy (extremesOf (s .cells) (s .count)) p (trimmed s)
+unfolding acceptedPack
+accepted-kept p s = ap (λ (x : Extremes). acceptedBy x p (trimmed s)) (trimmed-extremes s)
+
 module _ (p : Pack) (k : Kept p) where
-  -- An accepted sample: `t` is what is kept of it.
-  pub offer-accepted : (s t : Sample) (v : Verdict) (q : Pack)
+  -- An accepted sample, whose highest and lowest cell are e: `t` is what is kept of it.
+  pub offer-accepted : (s t : Sample) (e : Extremes) (v : Verdict) (q : Pack)
       → (v ≡ sampleVerdict (p .rules .n) s) × (answerOf v ≡ given (sampleRefusals (p .rules .n) s)) → v ≡ Accepted → t ≡ trimmed s
-      → q ≡ acceptedPack p t
+      → e ≡ extremesOf (s .cells) (s .count) → q ≡ acceptedBy e p t
       → (answered v q ≡ offered p s) × ((answerOf v ≡ given (sampleRefusals (p .rules .n) s)) × Kept q)
   unfolding offered
-  offer-accepted s t v q ev ea et eq =
-      let is : answered v q ≡ offered p s = rw (← ev .0, ea, eq, et) in
+  offer-accepted s t e v q ev ea et ee eq =
+      let next : q ≡ acceptedPack p (trimmed s) =
+      eq ∙ ap (acceptedBy e p) et ∙ ap (λ (x : Extremes). acceptedBy x p (trimmed s)) ee ∙ sym (accepted-kept p s) in
+      let is : answered v q ≡ offered p s = rw (← ev .0, ea, next) in
       (is, (ev .1, rw (ap (λ (a : Answered). a .pack) is) (kept-offer p s k)))
 
   pub offer-refused : (s : Sample) (v : Verdict) (number word : ℕ)

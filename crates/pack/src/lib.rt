@@ -18,6 +18,7 @@ use pack_state::accept;
 use page_settings::Settings;
 use refusals::Verdict;
 use sample::Sample;
+use sample::extremes_of;
 use sample::no_sample;
 use units::CellNo;
 
@@ -84,11 +85,13 @@ pub fn offer(p: Pack, s: Sample) -> Answered
     ensures { λ r. ⌜ Kept (r .pack) ⌝ }
 {
     let rules = p.rules;
-    let verdict = sample_verdict(rules.n, s);
+    let cells = s.cells;
+    let e = extremes_of(cells, s.count);
+    let verdict = sample_verdict(rules.n, s, e);
     match verdict {
         Verdict::Accepted => {
             let t = trim(s);
-            let next = accept(p, t);
+            let next = accept(p, t, e);
             Answered {
                 verdict: verdict,
                 pack: next,

@@ -6,13 +6,13 @@ use Prim.Native.Nat.{ℕ, zero, suc, _≤_, _<_}
 use native.Mathlib.Omega.{arith}
 use lib.Dec.{ltb}
 use lib.ListN.{getD, length}
-use lib.Seq.{ext-getD}
-use borrow.Author.Tests.{ltb-true, ltb-false}
-use Rattle.laws.specs.Tests.{by-test}
+use lib.Seq.{ext-getD, set-getD, getD-set-other}
+use borrow.Author.Tests.{lt-ltb, ltb-true, ltb-false}
+use Rattle.laws.specs.Tests.{by-test, by-order}
 use Rattle.laws.specs.Each.{eachTo, each-length, each-below}
 use Rattle.units.specs.declared.MilliVolts.{MilliVolts}
 use Rattle.units.specs.Cells.{tenAtMost}
-use Rattle.sample.specs.Cells.{noVolts}
+use Rattle.sample.specs.Cells.{noVolts, extremesOf, extremes-same}
 use Rattle.sample.specs.declared.Sample.{Sample}
 use Rattle.pack_refusals.specs.Samples.{cellsFit, sampleRefusals, sampleVerdict, keptCell, trimmed}
 
@@ -66,3 +66,23 @@ module _ (s t : Sample) (agree : Agree s t) where
           each-below noVolts (keptCell (s .count)) 10 (s .cells) i (omega arith) h
           ∙ kept i
           ∙ sym (each-below noVolts (keptCell (t .count)) 10 (t .cells) i (omega arith) h)
+
+-- ---- what is kept of a sample has its highest and its lowest cell
+
+module _ (s : Sample) where
+  kept-cell : (i : ℕ) → i < s .count → (v : MilliVolts) → keptCell (s .count) i v ≡ v
+  unfolding keptCell
+  kept-cell i h v = rw (lt-ltb i (s .count) h)
+
+  kept-entry : (i : ℕ) → i < s .count → (n : ℕ)
+      → getD (eachTo noVolts (keptCell (s .count)) n (s .cells)) i noVolts ≡ getD (s .cells) i noVolts
+  unfolding eachTo
+  kept-entry i h zero = refl
+  kept-entry i h (suc n) =
+      by-order n (s .count)
+      (λ l. rw (kept-cell n l, set-getD) (kept-entry i h n))
+      (λ l. let ne : i ≡ n → ⊥ = λ e. omega arith in rw getD-set-other (kept-entry i h n))
+
+  pub trimmed-extremes : extremesOf (trimmed s .cells) (trimmed s .count) ≡ extremesOf (s .cells) (s .count)
+  unfolding trimmed
+  trimmed-extremes = extremes-same _ (s .cells) (s .count) (λ i h. kept-entry i (let m = looked-within (s .count) in omega arith) 10)

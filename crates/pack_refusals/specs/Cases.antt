@@ -9,8 +9,10 @@ use Rattle.page_words.specs.Ranges.{within}
 use Rattle.refusals.specs.Answers.{answerOf}
 use Rattle.refusals.specs.Refusals.{answer}
 use Rattle.sample.specs.Cases.{belowZero, sampled}
+use Rattle.sample.specs.declared.Extremes.{Extremes}
 use Rattle.sample.specs.declared.Sample.{Sample}
 use Rattle.pack_refusals.specs.Samples.{cellsFit, sampleRefusals, sampleVerdict, temperaturesVerdict, commandRefusals, commandVerdict, keptCell, trimmed}
+use Rattle.pack_refusals.specs.SampleLaws.{verdictBy}
 
 -- The numbers that a pack of n cells answers to some samples; 0 where nothing is refused.
 abbrev numbers : ℕ → List Sample → List ℕ
@@ -89,6 +91,23 @@ word-0 = refl
 pub kept : trimmed (two 4001 4002 2981 2992) ≡ sampled 2 (4001 ∷ 4002 ∷ 0 ∷ 0 ∷ 0 ∷ 0 ∷ 0 ∷ 0 ∷ 0 ∷ 0 ∷ []) (belowZero 32768) 2981 2992
 unfolding trimmed eachTo keptCell
 kept = refl
+
+-- By the highest cell, as the code tries the rows: 6000 is asked of the highest alone, behind the count and before the temperatures.
+abbrev between : ℕ → ℕ → Extremes
+between low high =
+    record {
+      highest = record { number = record { 0 = 1 }; volts = record { 0 = high } };
+      lowest = record { number = record { 0 = 2 }; volts = record { 0 = low } };
+    }
+
+pub by-highest
+    : map (λ e. answerOf (verdictBy e 2 (two 1 2 2000 4500)) .number) (between 0 6000 ∷ between 6001 6000 ∷ between 0 6001 ∷ [])
+    ∷ map (λ n. answerOf (verdictBy (between 0 6001) n (two 1 2 1999 4500)) .number) (0 ∷ 1 ∷ 2 ∷ 3 ∷ [])
+    ∷ map (λ s. answerOf (verdictBy (between 0 6000) 2 s) .number) (two 1 2 1999 4500 ∷ two 1 2 2000 4501 ∷ [])
+    ∷ []
+    ≡ (0 ∷ 0 ∷ 10 ∷ []) ∷ (9 ∷ 9 ∷ 10 ∷ 9 ∷ []) ∷ (11 ∷ 11 ∷ []) ∷ []
+unfolding verdictBy temperaturesVerdict within
+by-highest = refl
 
 -- The last row by itself, as the code tries it.
 pub last-row

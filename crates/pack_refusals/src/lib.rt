@@ -1,40 +1,16 @@
 // Offered samples and switch commands: document 01's refusals 9, 10, 11 and 16, and what is kept of an accepted sample.
 ghost use mathlib.Core.Path.{_≡_};
-ghost use mathlib.Core.Bool.{_&&_};
 ghost use Rattle.refusals.specs.Answers.{answerOf};
 ghost use Rattle.refusals.specs.Refusals.{given};
-ghost use Rattle.units.specs.Cells.{tenAtMost};
-ghost use Rattle.pack_refusals.specs.Samples.{cellFits, cellsFit, temperatureFits, temperaturesVerdict, sampleRefusals, sampleVerdict, commandRefusals, commandVerdict, keptCell, trimmed};
+ghost use Rattle.sample.specs.Cells.{extremesOf};
+ghost use Rattle.pack_refusals.specs.Samples.{temperatureFits, temperaturesVerdict, sampleRefusals, sampleVerdict, commandRefusals, commandVerdict, keptCell, trimmed};
+ghost use Rattle.pack_refusals.specs.SampleLaws.{verdictBy};
 use refusals::Verdict;
 use refusals::refused;
+use sample::Extremes;
 use sample::Sample;
 use units::DeciKelvin;
 use units::MilliVolts;
-
-// One cell more that is no more than 6000 mV.
-fn cell_too(others: bool, v: MilliVolts) -> bool
-    ensures { λ r. ⌜ r ≡ (others && cellFits v) ⌝ }
-{
-    if others {
-        return v.0 <= 6000;
-    }
-    false
-}
-
-// All ten entries are asked: one past the count reads as 0, which fits.
-fn cells_fit(cells: [MilliVolts; 10], count: u8) -> bool
-    ensures { λ r. ⌜ r ≡ cellsFit cells (tenAtMost count) ⌝ }
-{
-    let mut ok = true;
-    let mut i: u8 = 0;
-    while i < 10 {
-        let v = cells[i as usize];
-        let k = kept_cell(count, i, v);
-        ok = cell_too(ok, k);
-        i += 1;
-    }
-    ok
-}
 
 fn temperature_fits(t: DeciKelvin) -> bool
     ensures { λ r. ⌜ r ≡ temperatureFits (t .0) ⌝ }
@@ -57,9 +33,11 @@ fn temperatures_verdict(t1: DeciKelvin, t2: DeciKelvin) -> Verdict
     refused(11)
 }
 
-// What document 01 answers to a sample that is offered to a pack of n cells; n is 0 in a pack without a page.
-pub fn sample_verdict(n: u8, s: Sample) -> Verdict
-    ensures { λ r. ⌜ (r ≡ sampleVerdict n s) × (answerOf r ≡ given (sampleRefusals n s)) ⌝ }
+// What document 01 answers to a sample that is offered to a pack of n cells, if e are its highest and lowest cell: where the highest is no
+// more than 6000 mV, no cell is. n is 0 in a pack without a page.
+pub fn sample_verdict(n: u8, s: Sample, e: Extremes) -> Verdict
+    ensures { λ r. ⌜ r ≡ verdictBy e n s ⌝ }
+    ensures { λ r. ⌜ (e ≡ extremesOf (s .cells) (s .count) → (r ≡ sampleVerdict n s) × (answerOf r ≡ given (sampleRefusals n s))) ⌝ }
 {
     if n == 0 {
         return refused(9);
@@ -68,8 +46,7 @@ pub fn sample_verdict(n: u8, s: Sample) -> Verdict
     if count != n {
         return refused(9);
     }
-    let cells = s.cells;
-    if cells_fit(cells, count) {
+    if e.highest.volts.0 <= 6000 {
         return temperatures_verdict(s.t1, s.t2);
     }
     refused(10)

@@ -11,7 +11,7 @@ use Rattle.guard.specs.declared.rule.Protection.{Protection}
 use Rattle.sample.specs.Cells.{extremesOf}
 use Rattle.sample.specs.None.{noSample}
 use Rattle.sample.specs.declared.Extremes.{Extremes}
-use Rattle.guard.specs.Steps.{protectionsAfter, stepAllBy}
+use Rattle.guard.specs.Steps.{protectionsAfter, stepAll}
 use Rattle.guard_raised.specs.Words.{anyRaisedAfter, anyRaised}
 use Rattle.guard_watch.specs.Watch.{watchOf}
 use Rattle.page_settings.specs.declared.Rules.{Rules}
@@ -131,11 +131,12 @@ unfoldable pub wantAt : Rules → Sample → Extremes → Bool → ℕ
 wantAt r s e raised =
     wantingWord (r .n) (isCharging (r .detection) (s .current)) raised (r .floor .0) (r .difference .0) (e .lowest .volts .0) (s .cells)
 
--- The pack after an accepted sample, of which `s` is kept: "protections first, then bleeding with the new protections".
-unfoldable pub acceptedPack : Pack → Sample → Pack
-acceptedPack p s =
-    let stepped : List Protection = stepAllBy s (p .protections) in
-    let want : ℕ = wantAt (p .rules) s (extremesOf (s .cells) (s .count)) (anyRaised stepped) in
+-- The pack after an accepted sample, of which `s` is kept, if e are its highest and lowest cell: "protections first, then bleeding with
+-- the new protections".
+abbrev pub acceptedBy : Extremes → Pack → Sample → Pack
+acceptedBy e p s =
+    let stepped : List Protection = stepAll e s (p .protections) in
+    let want : ℕ = wantAt (p .rules) s e (anyRaised stepped) in
     record {
       rules = p .rules;
       protections = stepped;
@@ -146,6 +147,10 @@ acceptedPack p s =
       command = p .command;
       tick = nextTick (p .tick);
     }
+
+-- The pack after an accepted sample.
+unfoldable pub acceptedPack : Pack → Sample → Pack
+acceptedPack p s = acceptedBy (extremesOf (s .cells) (s .count)) p s
 
 -- The pack at a load.
 unfoldable pub freshPack : Settings → Pack

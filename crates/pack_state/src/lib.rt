@@ -1,6 +1,6 @@
 // The state of a pack: what it holds, and one accepted sample on.
 ghost use mathlib.Core.Path.{_≡_};
-ghost use Rattle.pack_state.specs.State.{nextTick, wantAt, nextBalance, acceptedPack, Watched};
+ghost use Rattle.pack_state.specs.State.{nextTick, wantAt, nextBalance, acceptedBy, Watched};
 use bleed::chooser::choose;
 use bleed::resting::next_cell;
 use bleed::resting::next_runs;
@@ -13,7 +13,6 @@ use page_settings::Rules;
 use protections::PROTECTIONS;
 use sample::Extremes;
 use sample::Sample;
-use sample::extremes_of;
 use units::CellNo;
 
 // What bleeding keeps: of the latest accepted sample its start cell, who rested and who was bled; for the next one the start
@@ -87,13 +86,11 @@ fn next_balance(r: Rules, want: u16, b: Balance) -> Balance
     }
 }
 
-// The pack after an accepted sample: protections first, then bleeding with the new protections.
-pub fn accept(p: Pack, s: Sample) -> Pack
+// The pack after an accepted sample, if e are its highest and lowest cell: protections first, then bleeding with the new protections.
+pub fn accept(p: Pack, s: Sample, e: Extremes) -> Pack
     requires { ⌜ Watched p ⌝ }
-    ensures { λ r. ⌜ r ≡ acceptedPack p s ⌝ }
+    ensures { λ r. ⌜ r ≡ acceptedBy e p s ⌝ }
 {
-    let cells = s.cells;
-    let e = extremes_of(cells, s.count);
     let old = p.protections;
     let watched = p.watch;
     let guarded = guard_watch::step(old, watched, s, e);

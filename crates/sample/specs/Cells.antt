@@ -82,6 +82,20 @@ unfolding widened bestOf
 extremes-next cells e zero h q = absurd (not-suc-le-zero h)
 extremes-next cells e (suc k) h q = rw (add-one, q)
 
+-- ---- the extremes of `count` cells are those of the first `count` entries alone
+
+best-same : (choose : Found → Found → Found) (a b : List MilliVolts) (n : ℕ)
+    → ((i : ℕ) → i < n → getD a i noVolts ≡ getD b i noVolts) → bestOf choose a n ≡ bestOf choose b n
+unfolding bestOf
+best-same choose a b zero same = refl
+best-same choose a b (suc zero) same = rw (same 0 (omega arith))
+best-same choose a b (suc (suc k)) same = rw (best-same choose a b (suc k) (λ i h. same i (omega arith)), same (suc k) (omega arith))
+
+pub extremes-same : (a b : List MilliVolts) (count : ℕ) → ((i : ℕ) → i < tenAtMost count → getD a i noVolts ≡ getD b i noVolts)
+    → extremesOf a count ≡ extremesOf b count
+unfolding extremesOf
+extremes-same a b count same = rw (best-same larger a b (tenAtMost count) same, best-same smaller a b (tenAtMost count) same)
+
 -- ---- what they are, over the test by which a cell is better than the one chosen before it
 
 -- A cell among the first n.

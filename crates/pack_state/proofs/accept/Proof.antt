@@ -1,16 +1,12 @@
 -- `pack_state::accept` meets its contract. Assumes nothing.
-use Rattle.pack_state.specs.State.{acceptedPack}
 use Rattle.guard_raised.specs.Words.{anyRaised-word}
 use Rattle.guard_watch.specs.Watch.{watchOf, guardedBy}
 use borrow.Author.Needs.{needs}
 use Rattle.pack_state.proofs.accept.Statement.{statement}
 use Rattle.pack_state.proofs.accept.Tie as tie
 
-extremes-of-requires : tie.Need-extremes-of-requires
-extremes-of-requires c κs = search needs
-
 step-requires : tie.Need-step-requires
-step-requires c κs = c .before .before .before .before .pre
+step-requires c κs = c .before .before .pre
 
 want-at-requires : tie.Need-want-at-requires
 want-at-requires c κs = search needs
@@ -22,7 +18,7 @@ next-tick-requires : tie.Need-next-tick-requires
 next-tick-requires c κs = search needs
 
 returns : tie.Need-returns
-unfolding acceptedPack guardedBy watchOf
+unfolding guardedBy watchOf
 returns c =
     let d = c .before .before .before in
     let g = d .before .before .before .before .before in
@@ -31,7 +27,6 @@ returns c =
       c .before .next-balance .ensures,
       d .want-at .ensures,
       g .step .ensures,
-      g .before .before .before .extremes-of .ensures,
       anyRaised-word,
     )
 
@@ -39,7 +34,6 @@ pub accept-spec : {M : Type 1} → statement M
 accept-spec =
     tie.close
     (tie.spec
-    extremes-of-requires
     step-requires
     want-at-requires
     next-balance-requires
