@@ -200,6 +200,10 @@ struct Pack {
     raised: u32,
     running: u32,
     runs: [u32; 10],
+    /// For each quantity the least trip level of the clear protections and the greatest release
+    /// level of the raised ones: between the two none counts a sample.
+    next_trip: [i32; 7],
+    next_release: [i32; 7],
     /// Bits of the masks of all raised protections.
     blocked: u32,
     start: usize,
@@ -228,6 +232,8 @@ impl Pack {
             raised: 0,
             running: 0,
             runs: [0; 10],
+            next_trip: [i32::MAX; 7],
+            next_release: [i32::MIN; 7],
             blocked: 0,
             start: 0,
             balance: 0,
@@ -243,7 +249,23 @@ impl Pack {
             pack.release_count[p] = u32::from(words[first + 3]);
             pack.mask[p] = u32::from(words[first + 4]);
         }
+        pack.look_ahead();
         pack
+    }
+
+    /// Sets the levels at which a protection counts next, and the blocked switches.
+    fn look_ahead(&mut self) {
+        self.next_trip = [i32::MAX; 7];
+        self.next_release = [i32::MIN; 7];
+        self.blocked = 0;
+        for (p, &quantity) in QUANTITIES.iter().enumerate() {
+            if self.raised >> p & 1 == 1 {
+                self.next_release[quantity] = self.next_release[quantity].max(self.release[p]);
+                self.blocked |= self.mask[p];
+            } else {
+                self.next_trip[quantity] = self.next_trip[quantity].min(self.trip[p]);
+            }
+        }
     }
 
     fn fets(&self) -> u32 {
@@ -304,6 +326,11 @@ impl Pack {
     /// Steps the protections. A clear one counts tripping samples, a raised one releasing samples;
     /// mostly no run goes on, and then all runs are 0.
     fn protect(&mut self, quantities: &[i32; 7]) {
+        let ahead = self.next_release.iter().zip(&self.next_trip).zip(quantities);
+        let quiet = ahead.map(|((release, trip), value)| release < value && value < trip);
+        if self.running == 0 && quiet.fold(true, |all, one| all && one) {
+            return;
+        }
         let (mut tripping, mut releasing) = (0u32, 0u32);
         for p in 0..10 {
             tripping |= u32::from(quantities[QUANTITIES[p]] >= self.trip[p]) << p;
@@ -330,9 +357,7 @@ impl Pack {
             }
         }
         if self.raised != before {
-            let raised = self.raised;
-            let masks = (0..10).filter(|p| raised >> p & 1 == 1).map(|p| self.mask[p]);
-            self.blocked = masks.fold(0, |all, mask| all | mask);
+            self.look_ahead();
         }
     }
 
@@ -404,6 +429,30 @@ struct Sample {
     cells: [i32; 10],
 }
 
+/// A number at the front of a text, digit by digit, and how many digits it has. A zero in front is
+/// a number by itself.
+#[inline(never)]
+fn any_number(text: &[u8]) -> Option<(i32, usize)> {
+    let mut value = 0;
+    let mut count = 0;
+    for byte in text {
+        let digit = byte.wrapping_sub(b'0');
+        if digit > 9 || count == 1 && value == 0 {
+            break;
+        }
+        value = 10 * value + i32::from(digit);
+        count += 1;
+        if value > 65535 {
+            return None;
+        }
+    }
+    if count > 0 {
+        Some((value, count))
+    } else {
+        None
+    }
+}
+
 /// Reads lines where they stand: `rest` is what is left of the text, the last line of which ends
 /// with its newline. Only `next_line` goes over a newline.
 struct Reader<'t> {
@@ -437,31 +486,9 @@ impl<'t> Reader<'t> {
                 return Some(((pairs & 0xFF) * 100 + (pairs >> 16 & 0xFF)) as i32);
             }
         }
-        self.any_number()
-    }
-
-    /// The same, digit by digit. A zero in front is a number by itself.
-    #[inline(never)]
-    fn any_number(&mut self) -> Option<i32> {
-        let mut value = 0;
-        let mut count = 0;
-        for byte in self.rest {
-            let digit = byte.wrapping_sub(b'0');
-            if digit > 9 || count == 1 && value == 0 {
-                break;
-            }
-            value = 10 * value + i32::from(digit);
-            count += 1;
-            if value > 65535 {
-                return None;
-            }
-        }
+        let (value, count) = any_number(self.rest)?;
         self.rest = &self.rest[count..];
-        if count > 0 {
-            Some(value)
-        } else {
-            None
-        }
+        Some(value)
     }
 
     /// -32768..32767, no `-0`.
