@@ -26,8 +26,8 @@ pub struct Balance {
     pub runs: [u8; 10],
 }
 
-// The state of a pack: what the page says (its limits stand in the protections), and what was kept since. It does not grow with the
-// history. Without a page n is 0, and every sample is refused.
+// The state of a pack: what the page says (its limits stand in the protections), and what was kept since; `watch` is what the protections
+// come to. It does not grow with the history. Without a page n is 0, and every sample is refused.
 pub struct Pack {
     pub rules: Rules,
     pub protections: [Protection; PROTECTIONS],
