@@ -2,7 +2,7 @@
 pub mod CheckByte
 -- Document 01's three check bytes, computed.
 pub mod Vectors
--- One byte more.
+-- Bytes more.
 pub mod Next
 -- The table of sixteen entries, and its rule.
 pub mod Halves

@@ -1,6 +1,6 @@
 // The check byte: the SMBus CRC-8 of a run of bytes, worked four bits at a time.
 ghost use mathlib.Core.Path.{_≡_};
-ghost use Rattle.crc.specs.CheckByte.{timesXs, withByte, checkByte};
+ghost use Rattle.crc.specs.CheckByte.{timesXs, withByte, remainder, checkByte};
 
 // What half a byte, shifted out at the top, leaves: entry h is the remainder of h times x^8.
 const HALF: [u8; 16] = [0, 7, 14, 9, 28, 27, 18, 21, 56, 63, 54, 49, 36, 35, 42, 45];
@@ -21,15 +21,22 @@ fn with_byte(c: u8, b: u8) -> u8
     half(upper)
 }
 
+// The remainder after more bytes, from the remainder of those before them: a long run of bytes can be taken part by part.
+pub fn go_on(c: u8, bytes: &[u8]) -> u8
+    ensures { λ r. ⌜ r ≡ remainder c (now (bytes .entry)) ⌝ }
+{
+    let mut left = c;
+    let mut i: usize = 0;
+    while i < bytes.len() {
+        left = with_byte(left, bytes[i]);
+        i += 1;
+    }
+    left
+}
+
 // The check byte of a run of bytes of any length; of none it is 0.
 pub fn check_byte(bytes: &[u8]) -> u8
     ensures { λ r. ⌜ r ≡ checkByte (now (bytes .entry)) ⌝ }
 {
-    let mut c: u8 = 0;
-    let mut i: usize = 0;
-    while i < bytes.len() {
-        c = with_byte(c, bytes[i]);
-        i += 1;
-    }
-    c
+    go_on(0, bytes)
 }
