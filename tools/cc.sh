@@ -19,6 +19,17 @@ cc_works() { # COMPILER AND OPTIONS
     return "$works"
 }
 
+# Sees to it that there is a C compiler for this machine itself, and installs one where there is none.
+find_own_cc() {
+    command -v "${CC:-cc}" >/dev/null 2>&1 && return 0
+    echo "no C compiler here makes programs for this machine: installing Debian's package gcc"
+    apt-get update -qq >/dev/null 2>&1
+    DEBIAN_FRONTEND=noninteractive apt-get install -y -qq gcc >/dev/null 2>&1
+    command -v "${CC:-cc}" >/dev/null 2>&1 && return 0
+    echo "gcc could not be installed: install a C compiler by hand"
+    return 1
+}
+
 # Sets cc to a compiler on the PATH, or installs one where there is none.
 find_cc() {
     case $(uname -m) in
