@@ -9,19 +9,16 @@ tell() { # PROGRAM
     LC_ALL=C awk -f "$a/tables.awk" -f "$a/log.awk" -f "$a/wrong.awk" -f "$a/$1.awk"
 }
 
-# Writes a text that is known whole, and says so where that fails.
-put() { # TEXT
-    { printf '%s\n' "$1"; } 2>/dev/null && return 0
-    say "standard output could not be written: make room, or write to another place"
-    return 1
-}
-
-# Sets octal to a page's bytes, three digits each behind a blank. The file is read once, so that what is judged and what is explained are the same
-# bytes; a file of more than 4096 is no page, however it goes on.
+# Sets octal to a page's bytes, three digits each behind a blank; - is standard input. The file is read once, so that what is judged, explained and
+# replayed are the same bytes; a file of more than 4096 is no page, however it goes on.
 read_page() { # FILE
-    if [ ! -e "$1" ]; then say "$1: no such file"; return 1; fi
-    if [ -d "$1" ]; then say "$1: a folder, not a page"; return 1; fi
-    octal=$({ od -An -v -to1 -N 4097 <"$1" || echo failed; } 2>/dev/null | tr -d '\n')
+    if [ "$1" = - ]; then
+        octal=$({ od -An -v -to1 -N 4097 || echo failed; } 2>/dev/null | tr -d '\n')
+    else
+        if [ ! -e "$1" ]; then say "$1: no such file"; return 1; fi
+        if [ -d "$1" ]; then say "$1: a folder, not a page"; return 1; fi
+        octal=$({ od -An -v -to1 -N 4097 <"$1" || echo failed; } 2>/dev/null | tr -d '\n')
+    fi
     case $octal in
     *failed) say "$1: could not be read; look at its permissions"; return 1 ;;
     esac
@@ -32,16 +29,18 @@ page_bytes() { # COUNT
     printf '%b' "$(printf '%s\n' "$octal" | cut -c "1-$((4 * $1))" | sed 's/ /\\0/g')"
 }
 
-# Sets number and word to the proved judge's refusal of the page that was read; both are empty where it is accepted.
+# Sets number and word to the proved judge's refusal of the page that was read; both are empty where it is accepted. A program that reads a page and
+# a log writes the line of a refused page first, whatever the log is.
 judge_page() {
     number='' word=''
-    answer=$(page_bytes 4097 | run replay /dev/stdin /dev/null) || return 1
-    case $answer in
-    'page	'*)
+    answer=$(page_bytes 4097 | run replay /dev/stdin /dev/null)
+    case $?$answer in
+    '3page	'*)
         number=${answer#*	}
         word=${number#*	} number=${number%	*}
         ;;
-    'tick	'*) ;;
+    '0tick	'*) ;;
+    1*) return 1 ;;
     *)
         say "the judge's answer was cut short: try again"
         return 1
@@ -49,10 +48,13 @@ judge_page() {
     esac
 }
 
-# The refusal in a line: `refused`, number, word, and a sentence that says what is wrong.
+# The refusal in a line: `refused`, number, word, and a sentence that says what is wrong. The right check byte stands in it where the program that
+# works it out is there; nothing is proved for the sake of a number in a sentence.
 refusal() {
     right=''
-    if [ "$number" = 4 ]; then right=$(page_bytes $((${#octal} / 4 - 1)) | run checkbyte /dev/stdin) || return 1; fi
+    if [ "$number" = 4 ] && [ -z "$(if is_installed; then spoilt_in_copy checkbyte; else not_built checkbyte; fi)" ]; then
+        right=$(page_bytes $((${#octal} / 4 - 1)) | run checkbyte /dev/stdin 2>/dev/null) || right=''
+    fi
     printf '%s\n' "$octal" | KEEPER_NUMBER=$number KEEPER_WORD=$word KEEPER_RIGHT=$right tell judge
 }
 
@@ -65,24 +67,24 @@ page_word() { # NUMBER
     echo $((0$1 + 256 * 0$2))
 }
 
-# Runs an awk program over the replay of a log, with the log beside it. A log that can be read once only, as a pipe, goes to both by a named pipe.
-# What awk writes goes through cat, since not every awk says that it could not write.
-beside() { # PROGRAM PAGE LOG
-    if [ ! -f "$2" ]; then
-        say "$2: the page is read twice here, so it has to be a file: save it first"
-        return 1
-    fi
-    KEEPER_CELLS=$(page_word 1) source='' pipe=''
-    if [ "$3" = - ] || { [ -e "$3" ] && [ ! -f "$3" ] && [ ! -d "$3" ]; }; then
-        source=$3
-        room=$(mktemp -d) && mkfifo "$room/log" || { say "a named pipe could not be made in ${TMPDIR:-/tmp}: make room there"; return 1; }
-        clean_up() { rm -rf "$room"; }
-        end_with_us
-        pipe=$room/log
-    fi
+# Whether a log can be opened and read. The proved program itself says why it cannot; a page of no bytes keeps it from going on. What can be read
+# only once, as a pipe, is not tried.
+can_read() { # LOG
+    if [ "$1" = - ] || { [ -e "$1" ] && [ ! -f "$1" ] && [ ! -d "$1" ]; }; then return 0; fi
+    run replay /dev/null "$1" >/dev/null
+    [ $? -eq 3 ]
+}
+
+# Runs an awk program over the replay of a log under the page that was read, with the log beside it. The log is read once, also where it still grows,
+# and goes to both by a named pipe. What awk writes goes through cat, since not every awk says that it could not write.
+beside() { # PROGRAM LOG
+    KEEPER_CELLS=$(page_word 1)
     export KEEPER_CELLS
-    exec 7>&1
-    ends=$({ { both "$1" "$2" "$3"; echo "told $?" >&6; } | { cat >&7 2>/dev/null; echo "wrote $?" >&6; }; } 6>&1 | tr '\n' ' ')
+    room=$(mktemp -d 2>/dev/null) && mkfifo "$room/log" || { say "a named pipe could not be made in ${TMPDIR:-/tmp}: make room there"; return 1; }
+    # A shell tells of what a signal has ended: where a trap is set it is not heard meanwhile.
+    exec 7>&1 5>&2 2>/dev/null
+    ends=$(exec 2>&5 5>&- && { { both "$1" "$2"; echo "told $?" >&6; } | { cat >&7 2>/dev/null; echo "wrote $?" >&6; }; } 6>&1 | tr '\n' ' ')
+    exec 2>&5 7>&- 5>&-
     told=1 wrote=1
     case $ends in *told*wrote* | *wrote*told*)
         told=${ends#*told } wrote=${ends#*wrote }
@@ -95,41 +97,19 @@ beside() { # PROGRAM PAGE LOG
         return 1
     fi
     case $told$ends in 0*'unread 1 '*)
-        say "$3: could not be read to its end"
+        say "$([ "$2" = - ] && echo standard input || printf %s "$2") could not be read to its end"
         return 1
         ;;
     esac
     return "$told"
 }
 
-# Runs a command that reads /dev/stdin by that name. A pipe and a terminal can be opened so; a file would be read from its start again, and a socket
-# cannot be opened, so those go through a pipe.
-from_input() { # COMMAND..
-    if [ -p /dev/stdin ] || [ -t 0 ]; then
-        "$@"
-        return
-    fi
-    exec 7>&1
-    ends=$({ { cat 2>/dev/null || echo "unread $?" >&6; } | { "$@" >&7; echo "status $?" >&6; }; } 6>&1 | tr '\n' ' ')
-    status=${ends#*status }
-    status=${status%% *}
-    case $status$ends in 0*'unread 1 '*)
-        say "standard input could not be read to its end"
-        return 1
-        ;;
-    esac
-    return "$status"
-}
-
 # The replay, and behind it the awk program, which has the log as file 5. The named pipe is opened here, so that who writes into it never waits for a
-# reader that is gone; where the log cannot be read the replay says so.
-both() { # PROGRAM PAGE LOG
-    if [ -n "$pipe" ]; then
-        { if [ "$source" = - ]; then cat; else cat <"$source"; fi 2>/dev/null || echo "unread $?" >&6; } | tee "$pipe" |
-            { run replay "$2" /dev/stdin; printf 'end\t%s\n' $?; } | tell "$1" 5<"$pipe"
-    else
-        log=$3
-        if [ ! -r "$log" ] || [ -d "$log" ]; then log=/dev/null; fi
-        { run replay "$2" "$3"; printf 'end\t%s\n' $?; } | tell "$1" 5<"$log"
-    fi
+# reader that is gone. The page that was read comes as file 8.
+both() { # PROGRAM LOG
+    { if [ "$2" = - ]; then cat; else cat <"$2"; fi 2>/dev/null || echo "unread $?" >&6; } | tee "$room/log" |
+        {
+            page_bytes 4097 | run replay /dev/fd/8 /dev/stdin 8<&0 <&9
+            printf 'end\t%s\n' $?
+        } 9<&0 | tell "$1" 5<"$room/log"
 }

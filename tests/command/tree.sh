@@ -8,6 +8,7 @@ new_tree() {
     rm -rf "$tree"
     mkdir -p "$tree/crates/a/src" "$tree/crates/a/must-fail" "$tree/docs/src" "$tree/tests/examples" "$tree/.ci"
     cp -R "$from/keeper" "$from/tools" "$from/README.md" "$tree/"
+    cp "$from"/docs/*.md "$from"/docs/*.txt "$from"/docs/*.svg "$tree/docs/"
     cp "$from/.ci/run" "$tree/.ci/"
     cp "$from/tests/gate" "$tree/tests/"
     [ ! -f "$from/tests/part" ] || cp "$from/tests/part" "$tree/tests/"
@@ -21,6 +22,10 @@ new_tree() {
         echo 'fn main() {}' >"$tree/crates/$program/src/main.rt"
         echo "$program: a" >>"$tree/crates.txt"
     done
+    mkdir -p "$tree/crates/rig/src" "$tree/tests/rig"
+    : >"$tree/crates/rig/src/lib.rt"
+    echo 'rig: a' >>"$tree/crates.txt"
+    cp "$from/tests/rig/keeper.h" "$from/tests/rig/judge.c" "$tree/tests/rig/"
     # Every part of its gate is a stand-in too, so that the gate never runs itself.
     for part in "$from"/tests/*/run "$from/tests/gate-fails"; do
         part=${part#"$from/tests/"}
@@ -33,7 +38,7 @@ new_tree() {
 # A folder for the PATH with the stand-in.
 mkdir -p "$made/bin" "$made/tmp"
 cp "$here/tests/command/rt" "$made/bin/rt"
-export PROGRAMS="$here/target/bin" RATTLE_HOME="$kit" CALLS="$made/calls"
+export PROVED="$here/target" RATTLE_HOME="$kit" CALLS="$made/calls"
 with="$made/bin:$PATH"
 
 # Runs a command in the way of the tests: sets status, and keeps what it wrote and said.
@@ -86,7 +91,7 @@ group_gone() { # GROUP
 begin() { # COMMAND..
     : >"$CALLS"
     : >"$made/out"
-    TMPDIR=$made/tmp PATH=$with env --default-signal=INT,QUIT setsid "$@" >"$made/out" 2>"$made/err" </dev/null &
+    TMPDIR=$made/tmp PATH=$with env --default-signal=INT,QUIT,HUP setsid "$@" >"$made/out" 2>"$made/err" </dev/null &
     begun=$!
 }
 

@@ -4,6 +4,10 @@
 #ifndef KEEPER_H
 #define KEEPER_H
 
+#if !defined(__x86_64__) || defined(__ILP32__) || defined(_WIN32)
+#error "the pack keeper's archive is for x86-64 Linux: this compiler makes programs for another machine or system"
+#endif
+
 #include <stddef.h>
 #include <stdint.h>
 

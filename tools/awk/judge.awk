@@ -40,7 +40,7 @@ function sentence(n, w) {
     if (n == 1) return wrong_length()
     if (n == 2) return "mark is " hex(word_at(0)) ", allowed " hex(swapped(word_at(0))) ": its bytes are swapped, and so are probably those of every word"
     if (n == 3) return "mark is " hex(word_at(0)) ", allowed " allowed(layout, 0) " in a page of " bytes " bytes: " no_mark()
-    if (n == 4) return sprintf("check byte is 0x%02X, allowed 0x%s: the page was damaged, or changed without a new check byte", byte[bytes - 1], toupper(ENVIRON["KEEPER_RIGHT"]))
+    if (n == 4) return sprintf("check byte is 0x%02X, %s: the page was damaged, or changed without a new check byte", byte[bytes - 1], ENVIRON["KEEPER_RIGHT"] == "" ? "which is not that of the bytes before it" : "allowed 0x" toupper(ENVIRON["KEEPER_RIGHT"]))
     if (n == 5 && w == page_last[layout]) return "byte " 2 * w " (low byte of word " w ") is " byte[2 * w] ", allowed 0"
     if (n == 5 || n == 6 || n == 7) return out_of_range(w)
     if (n == 8) return wrong_order(w)
