@@ -14,7 +14,7 @@ compare() { # PROGRAM FOLDER CASES FIRST STEP
     while [ "$i" -lt "$3" ]; do
         one=$2/$i
         "$history" "$1" "$one.page" "$one.log" >"$one.want" 2>"$one.said"
-        run_linked "$programs/$1" "$one.page" "$one.log" >"$one.got" 2>>"$one.said"
+        "$programs/$1" "$one.page" "$one.log" >"$one.got" 2>>"$one.said"
         if [ ! -s "$one.said" ] && cmp -s "$one.want" "$one.got"; then rm -f "$one".*; fi
         i=$((i + $5))
     done
