@@ -18,3 +18,9 @@ pub mod Agree
 pub mod Cases
 -- Samples and pages for the computed cases, written short.
 pub mod Written
+-- Who wants, the mode and the words that show them, by the page's words.
+pub mod Exact
+-- The degrees of a page, and what a sample must read.
+pub mod Heat
+-- Fields that are the texts of numbers in range are read as these numbers.
+pub mod Lines
