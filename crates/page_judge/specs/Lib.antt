@@ -16,3 +16,5 @@ mod Long
 pub mod Marks
 -- "There is no other reason to refuse."
 pub mod Enough
+-- Computed: pages that look odd and are accepted.
+mod Odd
