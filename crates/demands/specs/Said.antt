@@ -15,12 +15,12 @@ use Rattle.text_numbers.specs.Numbers.{signedText}
 use Rattle.text_numbers.specs.Canonical.{InRange, number-read, signed-read}
 use Rattle.log_entries.specs.Entry.{offer, command, readCommand, cellsFrom, secondOf, firstOf, readSample, fieldsSay}
 
-abbrev Words : List ℕ → Type 0
+abbrev pub Words : List ℕ → Type 0
 Words [] = Unit {0}
 Words (v ∷ vs) = (v ≤ 65535) × Words vs
 
 -- The array with these in the places from k on.
-abbrev placed : List MilliVolts → ℕ → List ℕ → List MilliVolts
+abbrev pub placed : List MilliVolts → ℕ → List ℕ → List MilliVolts
 placed cells k [] = cells
 placed cells k (v ∷ vs) = placed (set cells k (record { 0 = v })) (suc k) vs
 

@@ -1,7 +1,7 @@
--- Who wants, the mode and the words that show them, said of the page's words and of what is shown, after any load and any calls.
+-- Who wants, the mode and the words on the bus, by the page's own words and by what is shown, after any load and any calls.
 -- Assumes nothing.
 use mathlib.Core.Path.{_≡_, refl, sym, ap, _∙_}
-use mathlib.Core.Bool.{Bool, not, cond}
+use mathlib.Core.Bool.{Bool, false, not, cond}
 use mathlib.Core.List.{List, _∷_}
 use Prim.Native.Nat.{ℕ, _*_}
 use lib.Dec.{eqb}
@@ -17,7 +17,7 @@ use Rattle.sample.specs.Cells.{extremesOf}
 use Rattle.guard_raised.specs.Words.{raisedAfter, raisedWordAfter, anyRaisedAfter, blocksAfter, anyRaisedAfter-word}
 use Rattle.bleed_wants.specs.Wants.{isCharging, wants}
 use Rattle.bleed_wants.specs.Steps.{wishes, voltsOf}
-use Rattle.pack_state.specs.State.{wishAt, wishesAfter, latestAfter}
+use Rattle.pack_state.specs.State.{wishAt, wishesAfter, bledAfter, latestAfter}
 use Rattle.pack.specs.Events.{Event}
 use Rattle.pack.specs.Kept.{pageOf, pastAfter}
 use Rattle.pack.specs.Calls.{page-accepted}
@@ -26,7 +26,7 @@ use Rattle.pack_shown.specs.Shown.{decisionAfter, modeAfter, modeOrder, firstMo
 use Rattle.bus_table.specs.Table.{table, rowOfCommand}
 use Rattle.bus_words.specs.Words.{statusWord, packWord, sentWord, wordAfter}
 use Rattle.bus_words.specs.Demands.{charging-current-is}
-use Rattle.demands.specs.Shown.{shown, samples, wanted, nobody, shown-is}
+use Rattle.demands.specs.Shown.{shown, samples, wanted, nobody, shown-is, shown-balance, none-wanting}
 
 -- ---- after any load and any calls
 
@@ -73,6 +73,14 @@ module _ (bytes : List ℕ) (taken : judged bytes ≡ Accepted) (es : List Event
       ap (λ (l : List Sample). getD (wishesAfter (pageOf bytes) l) 0 nobody k) latest
       ∙ ap (λ (b : Bool). wish (pageOf bytes) b k) up
       ∙ ap (λ (page : Settings). wish page (not none) k) (page-accepted bytes taken)
+
+  -- So nothing is bled while the current is below the charge detection current.
+  pub none-below-detection : charging ≡ false → shown bytes es .balance ≡ 0
+  unfolding wishAt wishes wants settingsOf rulesOf
+  none-below-detection t =
+      shown-balance bytes es
+      ∙ ap (bledAfter (pageOf bytes)) latest
+      ∙ none-wanting (pageOf bytes) s h (λ k. rw (page-accepted bytes taken, t))
 
   -- "Else 0x03 if current is at least charge detection (word 6); else 0x02."
   pub mode-by-words : shown bytes es .mode ≡ firstMode (raisedAfter (pageOf bytes .limits) (samples bytes es)) modeOrder (flowMode charging)
