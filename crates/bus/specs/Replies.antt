@@ -81,7 +81,7 @@ bytesFor (Refused number) f b = b
 abbrev pub Fitting : Replied → List ℕ → Type 0
 Fitting r b = r ≡ Sent → length b ≡ 3
 
--- A word for a command that is in the table and needs no sample: only its buffer can refuse it.
+-- A word for a command of which the caller answers for 12, 13 and 15: only its buffer can refuse it.
 unfoldable pub wordRefusals : ℕ → List Refusal
 wordRefusals room = givenIf 14 (not (eqb room 3)) ∷ []
 

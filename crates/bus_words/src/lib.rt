@@ -185,7 +185,7 @@ fn times(n: u8, volts: u16) -> u32
     (n as u32) * (volts as u32)
 }
 
-// Whether the words of a state fit 16 bits. They do of every state that a load or a later call handed back.
+// Whether the words of a state come to 60000 at most. They do in every state that a load or a later call handed back.
 pub fn is_bounded(p: Pack) -> bool
     ensures { λ r. ⌜ r ≡ isBounded p ⌝ }
 {
