@@ -14,7 +14,8 @@ pub mod Word
 pub mod Steps
 -- The code's walk over words is the walk over cells.
 pub mod StepLaws
--- What the walk has taken when it reaches a cell, and that the cell is bled exactly if it is taken then.
+-- To be believed, its first part: what the walk has taken when it reaches a cell. Then that the cell is bled exactly if it is taken then, and
+-- that the code's walk up to the cell has taken the same.
 pub mod Reached
 -- What a pack keeps for bleeding, as the history says it; one step of the code's leads to what the longer history says.
 pub mod Balance

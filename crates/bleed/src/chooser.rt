@@ -3,6 +3,7 @@ ghost use mathlib.Core.Path.{_≡_};
 ghost use Rattle.bleed_wants.specs.Word.{holdsCell};
 ghost use Rattle.bleed.specs.Walk.Word.{withCellIf};
 ghost use Rattle.bleed.specs.Walk.Steps.{isCell, Chosen, besideTaken, mayTake, takeOne};
+ghost use Rattle.bleed.specs.Walk.Reached.{takenWord};
 use crate::resting::next_cell;
 use laws::has_bit;
 use laws::with_bit_if;
@@ -98,6 +99,28 @@ pub fn choose(n: u8, most: u8, want: u16, rest: u16, start: CellNo) -> u16
     let mut cell = start;
     let mut left = n;
     while 0 < left {
+        taken = take_one(most, want, rest, taken, cell);
+        cell = next_cell(n, cell);
+        left -= 1;
+    }
+    taken
+}
+
+// The cells that the walk has taken when it reaches a cell; if it reaches the cell nowhere, all that it takes. A start that is no cell
+// gives none.
+pub fn taken_before(n: u8, most: u8, want: u16, rest: u16, start: CellNo, reached: CellNo) -> u16
+    ensures { λ r. ⌜ r ≡ takenWord n most want rest (start .0) (reached .0) ⌝ }
+{
+    if !is_cell(n, start) {
+        return 0;
+    }
+    let mut taken: u16 = 0;
+    let mut cell: CellNo = start;
+    let mut left = n;
+    while 0 < left {
+        if reached.0 == cell.0 {
+            return taken;
+        }
         taken = take_one(most, want, rest, taken, cell);
         cell = next_cell(n, cell);
         left -= 1;

@@ -40,11 +40,11 @@ module _ (bytes : List ℕ) (es : List Event) where
 -- ---- each refusal exactly when its row says
 
 -- A reply's answer as a verdict that names word 0.
-abbrev verdictOf : Replied → Verdict
+abbrev pub verdictOf : Replied → Verdict
 verdictOf Sent = Accepted
 verdictOf (Refused number) = PageRefused number 0
 
-verdict-one : (r q : Replied) → verdictOf r ≡ verdictOf q → r ≡ q
+pub verdict-one : (r q : Replied) → verdictOf r ≡ verdictOf q → r ≡ q
 verdict-one Sent Sent e = refl
 verdict-one Sent (Refused k) e = absurd (refused-not k 0 (sym e))
 verdict-one (Refused k) Sent e = absurd (refused-not k 0 e)

@@ -5,7 +5,7 @@ use mathlib.Core.Bool.{Bool, true, false, not, _&&_, true≢false}
 use mathlib.Core.List.{List, [], _∷_}
 use Prim.Native.Nat.{ℕ, _/_, _%_}
 use native.Mathlib.Omega.{arith}
-use borrow.Author.Tests.{eqb-true}
+use borrow.Author.Tests.{eqb-true, eq-eqb, ne-eqb}
 use lib.Dec.{eqb, ltb}
 use lib.ListN.{length, set}
 use Rattle.laws.specs.Tests.{by-test}
@@ -43,7 +43,7 @@ cellAbove n (Cell k) = ltb n (k .0)
 cellAbove n (Whole w) = false
 
 -- A row of the table: its number is given if the test holds.
-abbrev givenIf : ℕ → Bool → Refusal
+abbrev pub givenIf : ℕ → Bool → Refusal
 givenIf number test = refusal number (rule 0 (not test) ∷ [])
 
 -- The rows for a command to a pack of n cells, with or without a sample, and a buffer of `room` bytes. In a pack without a page n is 0
@@ -81,6 +81,16 @@ bytesFor (Refused number) f b = b
 abbrev pub Fitting : Replied → List ℕ → Type 0
 Fitting r b = r ≡ Sent → length b ≡ 3
 
+-- A word for a command of which the caller answers for 12, 13 and 15: only its buffer can refuse it.
+unfoldable pub wordRefusals : ℕ → List Refusal
+wordRefusals room = givenIf 14 (not (eqb room 3)) ∷ []
+
+unfoldable pub wordAnswer : ℕ → Replied
+wordAnswer room = first (λ (number word : ℕ). Refused number) Sent (wordRefusals room)
+
+unfoldable pub wordBuffer : ℕ → ℕ → List ℕ → List ℕ
+wordBuffer c w b = bytesFor (wordAnswer (length b)) (frameOf c w) b
+
 -- ---- from the page and the past
 
 unfoldable pub answerAfter : Settings → Past → ℕ → ℕ → Replied
@@ -108,6 +118,27 @@ pub answer-given : (p : Pack) (c room : ℕ) (r : Replied) → r ≡ answerTo p 
 unfolding answerTo answerFor replyRefusals
 answer-given p c room r e =
     (e, ap answerOfReply e ∙ first-map answerOfReply (λ (number word : ℕ). Refused number) Sent (refusalsOf p c room))
+
+-- The same for a word, and what then stands in the buffer b: it has three bytes, or any other number.
+module _ (c w : ℕ) (b : List ℕ) where
+  word-given : (r : Replied) → r ≡ wordAnswer (length b) → (r ≡ wordAnswer (length b)) × (answerOfReply r ≡ given (wordRefusals (length b)))
+  unfolding wordAnswer wordRefusals
+  word-given r e =
+      (e, ap answerOfReply e ∙ first-map answerOfReply (λ (number word : ℕ). Refused number) Sent (wordRefusals (length b)))
+
+  pub word-sent : (f : Framed) (e : List ℕ) → length b ≡ 3 → f ≡ frameOf c w → e ≡ bytesFor Sent f b
+      → ((Sent ≡ wordAnswer (length b)) × (answerOfReply Sent ≡ given (wordRefusals (length b)))) × (e ≡ wordBuffer c w b)
+  unfolding wordAnswer wordRefusals wordBuffer
+  word-sent f e h g q =
+      let t : eqb (length b) 3 ≡ true = eq-eqb (length b) 3 h in
+      (word-given Sent (rw t), rw t (q ∙ ap bytesOf g))
+
+  pub word-not : (length b ≡ 3 → ⊥)
+      → ((Refused 14 ≡ wordAnswer (length b)) × (answerOfReply (Refused 14) ≡ given (wordRefusals (length b)))) × (b ≡ wordBuffer c w b)
+  unfolding wordAnswer wordRefusals wordBuffer
+  word-not h =
+      let t : eqb (length b) 3 ≡ false = ne-eqb (length b) 3 h in
+      (word-given (Refused 14) (rw t), rw t)
 
 -- Three bytes put into a buffer of three.
 pub three-put : (b : List ℕ) (x y z : ℕ) → length b ≡ 3 → set (set (set b 0 x) 1 y) 2 z ≡ x ∷ y ∷ z ∷ []

@@ -18,7 +18,7 @@ use Rattle.bus_table.specs.Table.{rowOfCommand, table}
 use Rattle.bus_words.specs.Words.{sentWord, packWord, cellWord, sumTo}
 use Rattle.bus.specs.Replies.{notInTable, cellAbove, replyRefusals, answerFor, answerTo, bufferOf, frameOf}
 use Rattle.bus.specs.declared.answer.Replied.the-variants.{Sent, Refused}
-use Rattle.bus_lines.specs.Lines.{hexDigit, hexByte, hexBytes, lineFor, answerText, wordLine, wordLines, wordsText, roomed}
+use Rattle.bus_lines.specs.Lines.{hexDigit, hexByte, hexBytes, lineFor, answerText, wordLine, linesTo, wordLines, wordsText, roomedLines, roomed}
 
 -- 0x00, 0x09, 0x4a and 0xff
 pub bytes : hexBytes (0 ∷ 9 ∷ 0x4a ∷ 255 ∷ []) ≡ quoted "00094aff"
@@ -34,7 +34,7 @@ answers = (refl, refl, refl)
 
 -- the first two lines of any pack, in this order
 pub first-lines : (p : Pack) → wordLines p 2 ≡ quoted "00\trefused\t12\n01\trefused\t12\n"
-unfolding wordLines wordLine lineFor lineOf hexByte hexDigit decimal answerTo answerFor replyRefusals notInTable rowOfCommand
+unfolding linesTo wordLine lineFor lineOf hexByte hexDigit decimal answerTo answerFor replyRefusals notInTable rowOfCommand
 first-lines p = refl
 
 -- ---- commands that are sent, and all 256
@@ -67,6 +67,6 @@ texts = (refl, refl)
 pub all-lines : (drop 3552 (wordsText (freshPack worked)) ≡ quoted "fe\trefused\t12\nff\trefused\t12\n")
     × (length (roomed 3840 (freshPack worked)) ≡ 3580)
     × (roomed 3839 (freshPack worked) ≡ [])
-unfolding roomed wordLines wordLine lineFor lineOf hexBytes hexByte hexDigit decimal answerTo answerFor replyRefusals notInTable cellAbove rowOfCommand table
+unfolding roomedLines linesTo wordLine lineFor lineOf hexBytes hexByte hexDigit decimal answerTo answerFor replyRefusals notInTable cellAbove rowOfCommand table
     bufferOf frameOf sentWord packWord modeOf freshPack checkByte remainder withByte timesXs timesX
 all-lines = (refl, refl, refl)

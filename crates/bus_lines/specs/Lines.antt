@@ -14,6 +14,7 @@ use Rattle.text_fields.specs.Decimal.{decimal}
 use Rattle.text_fields.specs.Spelling.{decimal-length}
 use Rattle.text_writing.specs.Placing.{Put}
 use Rattle.text_writing.specs.Putting.{put-then, put-place, put-length, put-made}
+use Rattle.text_writing.specs.Rows.{nothing-put}
 use Rattle.pack_state.specs.declared.Pack.{Pack}
 use Rattle.pack.specs.Events.{Event}
 use Rattle.pack.specs.Kept.{pageOf, pastAfter}
@@ -53,10 +54,14 @@ lent = 0 ∷ 0 ∷ 0 ∷ []
 unfoldable pub wordLine : Pack → ℕ → List ℕ
 wordLine p c = lineFor c (answerTo p c 3) (bufferOf p c lent)
 
--- The lines of the first commands, and of all 256.
-unfoldable pub wordLines : Pack → ℕ → List ℕ
-wordLines p zero = []
-wordLines p (suc c) = wordLines p c ++ wordLine p c
+-- The lines of the first commands, by what the line of each is.
+unfoldable pub linesTo : (ℕ → List ℕ) → ℕ → List ℕ
+linesTo line zero = []
+linesTo line (suc c) = linesTo line c ++ line c
+
+-- Those of a pack, and all 256.
+abbrev pub wordLines : Pack → ℕ → List ℕ
+wordLines p = linesTo (wordLine p)
 
 abbrev pub wordsText : Pack → List ℕ
 wordsText p = wordLines p 256
@@ -65,8 +70,18 @@ wordsText p = wordLines p 256
 abbrev pub room : ℕ
 room = 3840
 
-unfoldable pub roomed : ℕ → Pack → List ℕ
-roomed size p = cond (ltb size room) [] (wordsText p)
+unfoldable pub roomedLines : ℕ → (ℕ → List ℕ) → List ℕ
+roomedLines size line = cond (ltb size room) [] (linesTo line 256)
+
+abbrev pub roomed : ℕ → Pack → List ℕ
+roomed size p = roomedLines size (wordLine p)
+
+-- One line has 15 bytes at most, and is written at a place where so many have room.
+abbrev pub lineRoom : ℕ
+lineRoom = 15
+
+unfoldable pub roomedLine : ℕ → ℕ → List ℕ → List ℕ
+roomedLine size at text = cond (ltb size (at + lineRoom)) [] text
 
 -- ---- what document 01 says of them
 
@@ -78,7 +93,7 @@ wordLinesAfter page es (suc c) =
 
 -- After a load and any events the lines are those that the page and the past say.
 pub words-are : (page : List ℕ) (es : List Event) (c : ℕ) → wordLines (after page es) c ≡ wordLinesAfter page es c
-unfolding wordLines wordLinesAfter wordLine
+unfolding linesTo wordLinesAfter wordLine
 words-are page es zero = refl
 words-are page es (suc c) =
     ap₂ (λ (a b : List ℕ). a ++ b) (words-are page es c) (ap₂ (lineFor c) (answer-is page es c 3) (buffer-is page es c lent))
@@ -136,6 +151,16 @@ pub room-behind : {d : List ℕ} {at : ℕ} {s : List ℕ} {p : ℕ} {e : List �
     → p + k ≤ length e
 room-behind n k x l h = let z = put-place x (omega arith) in let w = put-length x in omega arith
 
+-- Room for a line, or none.
+pub line-roomed : (size at : ℕ) (text : List ℕ) → at + lineRoom ≤ size → roomedLine size at text ≡ text
+unfolding roomedLine
+line-roomed size at text h = rw (le-ltb size (at + lineRoom) h)
+
+pub line-short : (d : List ℕ) (at : ℕ) (text : List ℕ) → length d < at + lineRoom
+    → Put d at (roomedLine (length d) at text) at d × (length (roomedLine (length d) at text) ≤ lineRoom)
+unfolding roomedLine
+line-short d at text h = rw (lt-ltb (length d) (at + lineRoom) h) (nothing-put d at, omega arith)
+
 -- The texts of a line put one behind the other.
 module _ {d : List ℕ} {at : ℕ} {p : ℕ} {e : List ℕ} {q : ℕ} {g : List ℕ} where
   pub hex-put : (b : ℕ) → at + 2 ≤ length d → Put d at (hexDigit (b / 16) ∷ []) p e → Put e p (hexDigit (b % 16) ∷ []) q g → Put d at (hexByte b) q g
@@ -158,46 +183,51 @@ module _ {d : List ℕ} {at : ℕ} {p : ℕ} {e : List ℕ} {q : ℕ} {g : List 
         let c = hex-length (getD l 2 0) in
         rw (three-parts l n) (put-then (rw length-append (omega arith)) (put-then (omega arith) x y) z)
 
-    pub line-put : (k : Pack) (c : ℕ) (a : Replied) (three : List ℕ) → at + 15 ≤ length d → a ≡ answerTo k c 3 → three ≡ bufferOf k c lent
+    pub line-put : (c : ℕ) (a : Replied) (three : List ℕ) → at + lineRoom ≤ length d
         → length (answerText a three) ≤ 11 → Put d at (hexByte c ++ (9 ∷ [])) p e → Put e p (answerText a three) q g → Put g q (10 ∷ []) r o
-        → Put d at (wordLine k c) r o × (length (wordLine k c) ≤ 15)
-    unfolding wordLine
-    line-put k c a three h ea et few x y z =
+        → Put d at (roomedLine (length d) at (lineFor c a three)) r o × (length (roomedLine (length d) at (lineFor c a three)) ≤ lineRoom)
+    line-put c a three h few x y z =
         let s = command-length c in
-        let t : length (answerText a three ++ (10 ∷ [])) ≡ length (answerText a three) + 1 = length-append (answerText a three) (10 ∷ []) in
-        let is : lineFor c (answerTo k c 3) (bufferOf k c lent) ≡ (hexByte c ++ (9 ∷ [])) ++ (answerText a three ++ (10 ∷ [])) =
-        sym (ap₂ (lineFor c) ea et) ∙ line-parts c a three in (
-          rw (is, ← append-assoc (hexByte c ++ (9 ∷ [])) (answerText a three) (10 ∷ [])) (put-then (rw length-append (omega arith)) (put-then (omega arith) x y) z),
-          rw (is, length-append) (omega arith),
+        let t : length (answerText a three ++ (10 ∷ [])) ≡ length (answerText a three) + 1 = length-append (answerText a three) (10 ∷ []) in (
+          rw (line-roomed (length d) at (lineFor c a three) h, line-parts c a three, ← append-assoc (hexByte c ++ (9 ∷ [])) (answerText a three) (10 ∷ []))
+              (put-then (rw length-append (omega arith)) (put-then (omega arith) x y) z),
+          rw (line-roomed (length d) at (lineFor c a three) h, line-parts c a three, length-append) (omega arith),
         )
 
+-- The line of a pack, by the values of its reply.
+pub word-put : {d : List ℕ} {at r : ℕ} {o : List ℕ} (k : Pack) (c : ℕ) (a : Replied) (three : List ℕ) → a ≡ answerTo k c 3 → three ≡ bufferOf k c lent
+    → at + lineRoom ≤ length d → Put d at (roomedLine (length d) at (lineFor c a three)) r o
+    × (length (roomedLine (length d) at (lineFor c a three)) ≤ lineRoom) → Put d at (wordLine k c) r o × (length (wordLine k c) ≤ lineRoom)
+unfolding wordLine
+word-put {d} {at} k c a three ea et h p = rw (← ea, ← et) (rw (line-roomed (length d) at (lineFor c a three) h) at p)
+
 -- How far the loop is: the lines of the first c commands stand in the buffer.
-pub record Putting (d : List ℕ) (p : Pack) (at c : ℕ) (e : List ℕ) : Type 0 where
-  pub put : Put d 0 (wordLines p c) at e
-  pub few : length (wordLines p c) ≤ 15 * c
+pub record Putting (d : List ℕ) (line : ℕ → List ℕ) (at c : ℕ) (e : List ℕ) : Type 0 where
+  pub put : Put d 0 (linesTo line c) at e
+  pub few : length (linesTo line c) ≤ 15 * c
 
-pub putting-start : (d : List ℕ) (p : Pack) → Putting d p 0 0 d
-unfolding wordLines
-putting-start d p = record { put = put-made d 0 [] d (omega arith) refl; few = omega arith }
+pub putting-start : (d : List ℕ) (line : ℕ → List ℕ) → Putting d line 0 0 d
+unfolding linesTo
+putting-start d line = record { put = put-made d 0 [] d (omega arith) refl; few = omega arith }
 
-module _ {d : List ℕ} {p : Pack} {at c : ℕ} {e : List ℕ} (g : Putting d p at c e) (h : room ≤ length d) where
+module _ {d : List ℕ} {line : ℕ → List ℕ} {at c : ℕ} {e : List ℕ} (g : Putting d line at c e) (h : room ≤ length d) where
   pub putting-place : c ≤ 256 → (at ≤ 15 * c) × (length e ≡ length d)
   putting-place k = let z = put-place (g .put) (omega (arith, g .few)) in (omega (arith, g .few), put-length (g .put))
 
-  pub putting-on : c < 256 → (r : ℕ) (o : List ℕ) → Put e at (wordLine p c) r o → length (wordLine p c) ≤ 15 → Putting d p r (c + 1) o
-  unfolding wordLines
+  pub putting-on : c < 256 → (r : ℕ) (o : List ℕ) → Put e at (line c) r o → length (line c) ≤ 15 → Putting d line r (c + 1) o
+  unfolding linesTo
   putting-on k r o x few =
       let n : c + 1 ≡ suc c = omega arith in
-      let l = length-append (wordLines p c) (wordLine p c) in
+      let l = length-append (linesTo line c) (line c) in
       rw n (record { put = put-then (omega (arith, g .few)) (g .put) x; few = omega (arith, g .few) })
 
-pub putting-end : (d : List ℕ) (p : Pack) (at c : ℕ) (e : List ℕ) → Putting d p at c e → room ≤ length d → c ≡ 256
-    → Put d 0 (roomed (length d) p) at e × (at ≤ length d)
-unfolding roomed
-putting-end d p at c e g h k =
+pub putting-end : (d : List ℕ) (line : ℕ → List ℕ) (at c : ℕ) (e : List ℕ) → Putting d line at c e → room ≤ length d → c ≡ 256
+    → Put d 0 (roomedLines (length d) line) at e × (at ≤ length d)
+unfolding roomedLines
+putting-end d line at c e g h k =
     let z = putting-place g h (omega arith) in
     (rw (le-ltb (length d) room h) (rw k at (g .put)), omega arith)
 
-pub roomed-not : (d : List ℕ) (p : Pack) → length d < room → Put d 0 (roomed (length d) p) 0 d × (0 ≤ length d)
-unfolding roomed
-roomed-not d p h = rw (lt-ltb (length d) room h) (put-made d 0 [] d (omega arith) refl, omega arith)
+pub roomed-not : (d : List ℕ) (line : ℕ → List ℕ) → length d < room → Put d 0 (roomedLines (length d) line) 0 d × (0 ≤ length d)
+unfolding roomedLines
+roomed-not d line h = rw (lt-ltb (length d) room h) (put-made d 0 [] d (omega arith) refl, omega arith)

@@ -5,7 +5,7 @@ ghost use Prim.Native.Nat.{_+_, _<_, _≤_};
 ghost use lib.ListN.{length};
 ghost use Rattle.text_writing.specs.Placing.{Put};
 ghost use Rattle.pack.specs.Kept.{Kept};
-ghost use Rattle.bus_lines.specs.Lines.{hexDigit, hexByte, hexBytes, refusedText, answerText, wordLine, roomed};
+ghost use Rattle.bus_lines.specs.Lines.{hexDigit, hexByte, hexBytes, refusedText, answerText, lineFor, wordLine, roomed, roomedLine};
 use bus::answer::Replied;
 use bus::reply::reply;
 use pack_state::Pack;
@@ -15,6 +15,9 @@ use text_writing::put_decimal;
 
 // The bytes of 256 lines: none has more than 15.
 pub const ROOM: usize = 3840;
+
+// The bytes of one line at most.
+pub const LINE: usize = 15;
 
 fn digit(v: u8) -> u8
     requires { ⌜ v < 16 ⌝ }
@@ -76,6 +79,23 @@ fn put_command(out: &mut [u8], at: usize, command: u8) -> usize
     put_byte(out, e, b'\t')
 }
 
+// Puts the line of a command that was answered so at `at` and answers the place behind it; where 15 bytes have no room nothing is written and
+// the answer is `at`.
+pub fn put_reply(out: &mut [u8], at: usize, command: u8, answer: Replied, three: [u8; 3]) -> usize
+    ensures { λ r. ⌜ Put (now (out .entry)) at (roomedLine (length (now (out .entry))) at (lineFor command answer three)) r (now (out .exit)) ⌝ }
+    ensures { λ _. ⌜ length (roomedLine (length (now (out .entry))) at (lineFor command answer three)) ≤ 15 ⌝ }
+{
+    if out.len() < LINE {
+        return at;
+    }
+    if out.len() - LINE < at {
+        return at;
+    }
+    let e = put_command(out, at, command);
+    let f = put_answer(out, e, answer, three);
+    put_byte(out, f, b'\n')
+}
+
 fn put_line(out: &mut [u8], at: usize, p: Pack, command: u8) -> usize
     requires { ⌜ Kept p × (at + 15 ≤ length (now out)) ⌝ }
     ensures { λ r. ⌜ Put (now (out .entry)) at (wordLine p command) r (now (out .exit)) ⌝ }
@@ -83,9 +103,7 @@ fn put_line(out: &mut [u8], at: usize, p: Pack, command: u8) -> usize
 {
     let mut three = [0u8; 3];
     let answer = reply(p, command, &mut three);
-    let e = put_command(out, at, command);
-    let f = put_answer(out, e, answer, three);
-    put_byte(out, f, b'\n')
+    put_reply(out, at, command, answer, three)
 }
 
 // Puts the 256 lines at the front of a buffer and answers how many bytes they have; where they have no room nothing is written.

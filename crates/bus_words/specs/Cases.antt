@@ -1,5 +1,5 @@
--- Computed cases: each bit of the status by itself, the words of document 01's replay, before and after a switch command, and ten unlike
--- cells.
+-- Computed cases: each bit of the status by itself, the words of document 01's replay, before and after a switch command, those of a page with
+-- another detection current, ten unlike cells, and who is bled of ten.
 -- Assumes nothing.
 use mathlib.Core.Path.{_≡_, refl}
 use mathlib.Core.Bool.{Bool, true, false}
@@ -28,6 +28,7 @@ use Rattle.bleed.specs.Walk.Word.{withCellIf}
 use Rattle.pack_refusals.specs.Samples.{cellsFit, keptCell, trimmed, sampleRefusals, sampleVerdict, commandRefusals, commandVerdict}
 use Rattle.page_settings.specs.declared.Rules.{Rules}
 use Rattle.page_settings.specs.declared.Settings.{Settings}
+use Rattle.page_settings.specs.Cases as settings
 use Rattle.pack.specs.Events.{Event, offer, command, withEvent, pastOf}
 use Rattle.pack_state.specs.State.{wishAt, wishesAfter, bledAfter}
 use Rattle.pack_shown.specs.Shown.{modeOrder, firstMode, modeAfter}
@@ -154,9 +155,9 @@ each =
     ∷ limited (pos 2631) (pos 2732) 1 1 2
     ∷ [])
 
--- Status, mode, raised and switches, charging current.
+-- Status, mode, raised and switches, charging current and voltage: both are 0 where a raised one blocks charge, and stay where it blocks discharge.
 abbrev seen : ℤ → ℕ → ℕ → ℕ → List ℕ
-seen current t1 t2 cell = words each (two current t1 t2 cell 4000 ∷ command 3 ∷ []) (0x16 ∷ 0x41 ∷ 0x45 ∷ 0x14 ∷ [])
+seen current t1 t2 cell = words each (two current t1 t2 cell 4000 ∷ command 3 ∷ []) (0x16 ∷ 0x41 ∷ 0x45 ∷ 0x14 ∷ 0x15 ∷ [])
 
 pub by-themselves
     : (seen (pos 100) 2980 2980 4000
@@ -175,26 +176,67 @@ pub by-themselves
     ∷ seen (pos 100) 2631 2980 4000
     ∷ seen (pos 900) 2631 3330 4250
     ∷ [])
-    ≡ ((0x0080 ∷ 0x03 ∷ 0x0300 ∷ 1500 ∷ [])
-    ∷ (0x00C0 ∷ 0x02 ∷ 0x0300 ∷ 1500 ∷ [])
-    ∷ (0xC080 ∷ 0x15 ∷ 0x0201 ∷ 0 ∷ [])
-    ∷ (0x0880 ∷ 0x03 ∷ 0x0102 ∷ 1500 ∷ [])
-    ∷ (0x0080 ∷ 0x12 ∷ 0x0304 ∷ 1500 ∷ [])
-    ∷ (0x08C0 ∷ 0x13 ∷ 0x0108 ∷ 1500 ∷ [])
-    ∷ (0x48C0 ∷ 0x14 ∷ 0x0018 ∷ 0 ∷ [])
-    ∷ (0x5080 ∷ 0x10 ∷ 0x0220 ∷ 0 ∷ [])
-    ∷ (0x5880 ∷ 0x11 ∷ 0x0060 ∷ 0 ∷ [])
-    ∷ (0x1080 ∷ 0x16 ∷ 0x0380 ∷ 1500 ∷ [])
-    ∷ (0xD880 ∷ 0x12 ∷ 0x00E5 ∷ 0 ∷ [])
-    ∷ (0x0080 ∷ 0x03 ∷ 0x0300 ∷ 1500 ∷ [])
-    ∷ (0x4080 ∷ 0x03 ∷ 0x0600 ∷ 0 ∷ [])
-    ∷ (0x4880 ∷ 0x03 ∷ 0x0C00 ∷ 0 ∷ [])
-    ∷ (0xD880 ∷ 0x12 ∷ 0x0C85 ∷ 0 ∷ [])
+    ≡ ((0x0080 ∷ 0x03 ∷ 0x0300 ∷ 1500 ∷ 8400 ∷ [])
+    ∷ (0x00C0 ∷ 0x02 ∷ 0x0300 ∷ 1500 ∷ 8400 ∷ [])
+    ∷ (0xC080 ∷ 0x15 ∷ 0x0201 ∷ 0 ∷ 0 ∷ [])
+    ∷ (0x0880 ∷ 0x03 ∷ 0x0102 ∷ 1500 ∷ 8400 ∷ [])
+    ∷ (0x0080 ∷ 0x12 ∷ 0x0304 ∷ 1500 ∷ 8400 ∷ [])
+    ∷ (0x08C0 ∷ 0x13 ∷ 0x0108 ∷ 1500 ∷ 8400 ∷ [])
+    ∷ (0x48C0 ∷ 0x14 ∷ 0x0018 ∷ 0 ∷ 0 ∷ [])
+    ∷ (0x5080 ∷ 0x10 ∷ 0x0220 ∷ 0 ∷ 0 ∷ [])
+    ∷ (0x5880 ∷ 0x11 ∷ 0x0060 ∷ 0 ∷ 0 ∷ [])
+    ∷ (0x1080 ∷ 0x16 ∷ 0x0380 ∷ 1500 ∷ 8400 ∷ [])
+    ∷ (0xD880 ∷ 0x12 ∷ 0x00E5 ∷ 0 ∷ 0 ∷ [])
+    ∷ (0x0080 ∷ 0x03 ∷ 0x0300 ∷ 1500 ∷ 8400 ∷ [])
+    ∷ (0x4080 ∷ 0x03 ∷ 0x0600 ∷ 0 ∷ 0 ∷ [])
+    ∷ (0x4880 ∷ 0x03 ∷ 0x0C00 ∷ 0 ∷ 0 ∷ [])
+    ∷ (0xD880 ∷ 0x12 ∷ 0x0C85 ∷ 0 ∷ 0 ∷ [])
     ∷ [])
 unfolding wordAfter rowOfCommand table sentWord packWord statusWord heatRaised withSwitches withBitIf withBit hasBit wordOf pastOf withEvent
     sampleVerdict sampleRefusals within cellsFit trimmed eachTo keptCell commandVerdict commandRefusals modeAfter firstMode modeOrder
     raisedWordAfter blocksAfter bitsOf anyOf raised rowAt rows measure extremesOf bestOf
 by-themselves = refl
+
+-- ---- by the page's own words: detection 150, charging voltage 4180 for each of seven cells, charging current 1700
+
+abbrev by : ℤ → List ℕ
+by current =
+    words settings.unlike (offer (sampled 7 (3700 ∷ 3726 ∷ 3700 ∷ 3700 ∷ 3700 ∷ 3700 ∷ 3700 ∷ 0 ∷ 0 ∷ 0 ∷ []) current 2980 2980) ∷ [])
+    (0x16 ∷ 0x41 ∷ 0x14 ∷ 0x15 ∷ 0x46 ∷ [])
+
+pub by-words
+    : (by (pos 150) ∷ by (pos 149) ∷ by (pos 100) ∷ by (pos 0) ∷ by (belowZero 1) ∷ [])
+    ≡ ((0x0080 ∷ 0x03 ∷ 1700 ∷ 29260 ∷ 0x0002 ∷ [])
+    ∷ (0x00C0 ∷ 0x02 ∷ 1700 ∷ 29260 ∷ 0 ∷ [])
+    ∷ (0x00C0 ∷ 0x02 ∷ 1700 ∷ 29260 ∷ 0 ∷ [])
+    ∷ (0x00C0 ∷ 0x02 ∷ 1700 ∷ 29260 ∷ 0 ∷ [])
+    ∷ (0x00C0 ∷ 0x02 ∷ 1700 ∷ 29260 ∷ 0 ∷ [])
+    ∷ [])
+unfolding wordAfter rowOfCommand table sentWord packWord statusWord heatRaised withBit hasBit wordOf pastOf withEvent sampleVerdict sampleRefusals within
+    cellsFit trimmed eachTo keptCell modeAfter firstMode modeOrder blocksAfter anyRaisedAfter anyOf raised rowAt rows measure extremesOf bestOf bledAfter
+    bledWordAfter wishesAfter wishAt wishes voltsOf wants
+by-words = refl
+
+-- ---- 0x46 of ten cells: "bit k - 1 for bled cell k", of all ten
+
+-- Ten cells, K 5, and nothing that trips.
+abbrev ten-page : Settings
+ten-page = record { rules = record { n = 10; k = 5; r = 4; floor = record { 0 = 3900 }; difference = record { 0 = 10 }; detection = pos 100; voltage = record { 0 = 4200 }; current = pos 1500 }; limits = limited (pos 6000) (pos 5999) 2 2 0 ∷ never }
+
+abbrev bled-of : List ℕ → ℕ
+bled-of cells = wordAfter ten-page (pastOf 10 (offer (sampled 10 cells (pos 100) 2980 2980) ∷ [])) 0x46
+
+-- Cell 9 alone, cell 10 alone, the five odd ones, the five even ones.
+pub ten-bled
+    : (bled-of (4000 ∷ 4000 ∷ 4000 ∷ 4000 ∷ 4000 ∷ 4000 ∷ 4000 ∷ 4000 ∷ 4020 ∷ 4000 ∷ [])
+    ∷ bled-of (4000 ∷ 4000 ∷ 4000 ∷ 4000 ∷ 4000 ∷ 4000 ∷ 4000 ∷ 4000 ∷ 4000 ∷ 4020 ∷ [])
+    ∷ bled-of (4020 ∷ 4000 ∷ 4020 ∷ 4000 ∷ 4020 ∷ 4000 ∷ 4020 ∷ 4000 ∷ 4020 ∷ 4000 ∷ [])
+    ∷ bled-of (4000 ∷ 4020 ∷ 4000 ∷ 4020 ∷ 4000 ∷ 4020 ∷ 4000 ∷ 4020 ∷ 4000 ∷ 4020 ∷ [])
+    ∷ [])
+    ≡ (0x0100 ∷ 0x0200 ∷ 0x0155 ∷ 0x02AA ∷ [])
+unfolding wordAfter rowOfCommand table sentWord packWord withBit hasBit pastOf withEvent sampleVerdict sampleRefusals within cellsFit trimmed eachTo keptCell
+    anyRaisedAfter anyOf raised rowAt rows measure extremesOf bestOf bledAfter bledWordAfter wishesAfter wishAt wishes voltsOf wants
+ten-bled = refl
 
 -- ---- ten unlike cells: 0x30 to 0x39 send cells 1 to 10, and a command that is not in the table sends 0
 

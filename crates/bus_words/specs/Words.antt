@@ -1,17 +1,18 @@
 -- The word of each row of the table, as document 01 says it: of the page and the past, and of a state.
 -- Assumes nothing.
 use mathlib.Core.Path.{_≡_, refl, ap}
-use mathlib.Core.Bool.{Bool, true, not, cond, _||_}
+use mathlib.Core.Bool.{Bool, true, not, cond, _&&_, _||_}
 use mathlib.Core.List.{List, [], _∷_}
 use Prim.Native.Nat.{ℕ, zero, suc, _+_, _-_, _*_, _≤_, _<_}
 use native.Mathlib.Numerals.{add-one}
 use native.Mathlib.Omega.{arith}
-use borrow.Author.Tests.{le-leb, lt-leb}
+use borrow.Author.Tests.{le-leb, lt-leb, leb-true}
 use lib.Bits.{bitOr}
 use lib.Dec.{leb, ltb}
 use lib.IntN.{ℤ}
 use lib.ListN.{getD}
 use Rattle.laws.specs.Bits.{hasBit, withBit, withBitIf}
+use Rattle.laws.specs.Tests.{and-left, and-right}
 use Rattle.laws.specs.Words.{bitsOf}
 use Rattle.units.specs.declared.MilliVolts.{MilliVolts}
 use Rattle.units.specs.Signed.{wordOf}
@@ -181,6 +182,23 @@ pub record Bounded (p : Pack) : Type 0 where
   pub sum : sumWord (p .latest) ≤ 60000
   pub voltage : p .rules .n * p .rules .voltage .0 ≤ 60000
   pub watched : Watched p
+
+-- The same of its numbers as a test.
+unfoldable pub isBounded : Pack → Bool
+isBounded p = leb (sumWord (p .latest)) 60000 && leb (p .rules .n * p .rules .voltage .0) 60000
+
+pub bounded-from : (p : Pack) → isBounded p ≡ true → Watched p → Bounded p
+unfolding isBounded
+bounded-from p e w =
+    record {
+      sum = leb-true (sumWord (p .latest)) 60000 (and-left (leb (sumWord (p .latest)) 60000) (leb (p .rules .n * p .rules .voltage .0) 60000) e);
+      voltage = leb-true (p .rules .n * p .rules .voltage .0) 60000 (and-right (leb (sumWord (p .latest)) 60000) (leb (p .rules .n * p .rules .voltage .0) 60000) e);
+      watched = w;
+    }
+
+pub bounded-test : (p : Pack) → Bounded p → isBounded p ≡ true
+unfolding isBounded
+bounded-test p b = rw (le-leb (sumWord (p .latest)) 60000 (b .sum), le-leb (p .rules .n * p .rules .voltage .0) 60000 (b .voltage))
 
 -- ---- what the code needs of them
 

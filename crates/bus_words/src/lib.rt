@@ -7,8 +7,7 @@ ghost use Rattle.units.specs.Cells.{tenAtMost};
 ghost use Rattle.sample.specs.Cells.{extremesOf};
 ghost use Rattle.guard_raised.specs.Words.{blocksAny};
 ghost use Rattle.pack_state.specs.State.{Watched};
-ghost use Rattle.pack.specs.Kept.{Kept};
-ghost use Rattle.bus_words.specs.Words.{sumTo, sumWord, numbersWord, cellWord, heatRaised, packWord, sentWord, saidOf, statusOf, raisedOrOn, raisedAndSwitches, Bounded};
+ghost use Rattle.bus_words.specs.Words.{sumTo, sumWord, numbersWord, cellWord, heatRaised, packWord, sentWord, saidOf, statusOf, raisedOrOn, raisedAndSwitches, isBounded, Bounded};
 use bleed_wants::is_charging;
 use bus_table::PackWord;
 use bus_table::Sends;
@@ -180,9 +179,30 @@ fn pack_word(p: Pack, w: PackWord) -> u16
     }
 }
 
+fn times(n: u8, volts: u16) -> u32
+    ensures { λ r. ⌜ r ≡ n * volts ⌝ }
+{
+    (n as u32) * (volts as u32)
+}
+
+// Whether the words of a state come to 60000 at most. They do in every state that a load or a later call handed back.
+pub fn is_bounded(p: Pack) -> bool
+    ensures { λ r. ⌜ r ≡ isBounded p ⌝ }
+{
+    let rules = p.rules;
+    let latest = p.latest;
+    let cells = latest.cells;
+    let sum = sum_to(cells, latest.count);
+    if 60000 < sum {
+        return false;
+    }
+    let voltage = times(rules.n, rules.voltage.0);
+    voltage <= 60000
+}
+
 // The word of a row; 0 where there is none.
 pub fn sent_word(p: Pack, row: Sends) -> u16
-    requires { ⌜ Kept p ⌝ }
+    requires { ⌜ Bounded p ⌝ }
     ensures { λ r. ⌜ r ≡ sentWord (saidOf p) row ⌝ }
 {
     match row {

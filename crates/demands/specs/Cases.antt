@@ -1,5 +1,5 @@
 -- Computed cases, through load, sample and command: document 01's replay example as decisions, the limits of a sample, counts, commands,
--- the modes one after the other, masks of 0, and a page of 160 bytes in the cold.
+-- the modes one after the other, masks of 0, a page of 160 bytes in the cold, and a page with another floor and another detection current.
 -- Assumes nothing.
 use mathlib.Core.Path.{_≡_, refl, ap}
 use mathlib.Core.Bool.{cond}
@@ -8,7 +8,7 @@ use Prim.Native.Nat.{ℕ, _+_, _-_, _*_}
 use lib.IntN.{ℤ, pos}
 use lib.ListN.{take, replicate}
 use Rattle.units.specs.Levels.{level}
-use Rattle.page_judge.specs.Worked.{Change, workedPage, longPage, pageWith, longWith, put}
+use Rattle.page_judge.specs.Worked.{Change, workedPage, longPage, unlikePage, pageWith, longWith, put}
 use Rattle.refusals.specs.Answers.{answerOf}
 use Rattle.sample.specs.Cases as sample
 use Rattle.sample.specs.Cases.{belowZero}
@@ -17,7 +17,7 @@ use Rattle.refusals.specs.declared.Verdict.the-variants.{Accepted}
 use Rattle.page_settings.specs.declared.Settings.{Settings}
 use Rattle.page_settings.specs.declared.Loaded.{Loaded}
 use Rattle.page_settings.specs.Settings.{absent, noSettings, loadedOf}
-use Rattle.page_settings.specs.Cases.{workedRules, worked, worked-loaded, winter, winter-loaded}
+use Rattle.page_settings.specs.Cases.{workedRules, worked, worked-loaded, winter, winter-loaded, unlike, unlike-loaded}
 use Rattle.pack_state.specs.declared.Pack.{Pack}
 use Rattle.pack.specs.declared.Answered.{Answered}
 use Rattle.pack.specs.Events.{Event, offer, command, accepts}
@@ -295,6 +295,19 @@ quickCases =
     ∷ (5 ∷ 0 ∷ 3 ∷ 0 ∷ 0x02 ∷ [])
     ∷ [])
 
+-- A page with floor 3700, difference 25 and detection 150, seven cells and K 3: cells 2 and 6 are bled at 150 mA and nobody at 149 or -150 mA; nor one
+-- of 3699 mV, or one that exceeds the lowest by 25.
+abbrev otherCases : Case
+otherCases =
+    case
+    (answers (freshPack unlike)
+    (sampled (pos 150) 2980 2980 (3700 ∷ 3726 ∷ 3700 ∷ 3725 ∷ 3700 ∷ 3800 ∷ 3700 ∷ [])
+    ∷ sampled (pos 149) 2980 2980 (3700 ∷ 3726 ∷ 3700 ∷ 3725 ∷ 3700 ∷ 3800 ∷ 3700 ∷ [])
+    ∷ sampled (belowZero 150) 2980 2980 (3700 ∷ 3726 ∷ 3700 ∷ 3725 ∷ 3700 ∷ 3800 ∷ 3700 ∷ [])
+    ∷ sampled (pos 150) 2980 2980 (3600 ∷ 3699 ∷ 3600 ∷ 3700 ∷ 3600 ∷ 3600 ∷ 3600 ∷ [])
+    ∷ []))
+    ((1 ∷ 0 ∷ 0 ∷ 34 ∷ 0x03 ∷ []) ∷ (2 ∷ 0 ∷ 0 ∷ 0 ∷ 0x02 ∷ []) ∷ (3 ∷ 0 ∷ 0 ∷ 0 ∷ 0x02 ∷ []) ∷ (4 ∷ 0 ∷ 0 ∷ 8 ∷ 0x03 ∷ []) ∷ [])
+
 abbrev pub cases : List Case
 cases = replay ∷ limitCases ∷ countCases ∷ commandCases ∷ pagelessCases ∷ []
 
@@ -318,6 +331,10 @@ cold-pass = refl
 pub quick-pass : quickCases .got ≡ quickCases .right
 unfolding computed
 quick-pass = refl
+
+pub other-pass : otherCases .got ≡ otherCases .right
+unfolding computed
+other-pass = refl
 
 -- Of an accepted sample, a refused one and a command only the first is listed.
 pub listed : shownWords workedPage (command 3 ∷ charged (4100 ∷ []) ∷ charged (4000 ∷ 4020 ∷ []) ∷ []) ≡ 2 ∷ []
@@ -346,6 +363,9 @@ worked-is = ap (λ (l : Loaded). l .settings) worked-loaded
 
 pub winter-is : pageOf longPage ≡ winter
 winter-is = ap (λ (l : Loaded). l .settings) winter-loaded
+
+pub unlike-is : pageOf unlikePage ≡ unlike
+unlike-is = ap (λ (l : Loaded). l .settings) unlike-loaded
 
 pub quick-is : loadedOf (longWith (put 58 1 ∷ put 59 1 ∷ put 63 1 ∷ put 64 1 ∷ [])) ≡ record { verdict = Accepted; settings = quick }
 unfolding computed

@@ -3,29 +3,42 @@
 -- what `decide` shows after a load of any bytes and any calls since, refused ones among them. Lists have the latest first.
 -- Assumes nothing.
 use mathlib.Core.Path.{_≡_, ap, _∙_}
-use mathlib.Core.Bool.{true, false, not}
-use mathlib.Core.List.{List, [], _∷_, _++_}
+use mathlib.Core.Bool.{true, false, not, cond}
+use mathlib.Core.List.{List, [], _∷_, _++_, map}
 use mathlib.Core.Logic.{_↔_}
 use Prim.Native.Nat.{ℕ, suc, _+_, _*_, _≤_, _<_}
 use native.Mathlib.Omega.{arith}
 use native.Mathlib.Nat.{lt-of-lt-of-le}
 use lib.Count.{ones}
-use lib.ListN.{length, drop, getD}
+use lib.Dec.{eqb}
+use lib.IntN.{ℤ, pos}
+use lib.ListN.{length, drop, getD, take, replicate}
 use Rattle.laws.specs.Bits.{hasBit}
 use Rattle.laws.specs.Latest.{lastAll, among, lastAll-le, among-le}
 use Rattle.laws.specs.Words.{bitsOf}
+use Rattle.units.specs.Signed.{signedOf}
+use Rattle.crc.specs.CheckByte.{checkByte}
+use Rattle.protections.specs.Direction.{reaches, backOf}
 use Rattle.protections.specs.Table.{rowAt}
 use Rattle.refusals.specs.Refusals.{NoFault, Lowest}
 use Rattle.refusals.specs.declared.Verdict.the-variants.{Accepted, Refused}
-use Rattle.page_words.specs.Ranges.{wordAt}
+use Rattle.text_fields.specs.Decimal.{decimal}
+use Rattle.text_numbers.specs.Numbers.{signedText}
+use Rattle.text_numbers.specs.Canonical.{InRange}
+use Rattle.page_words.specs.Ranges.{wordAt, levelOf}
+use Rattle.page_faults.specs.Kinds.{layoutOf, bytesOf, checkAt, kindOf}
 use Rattle.page_judge.specs.Page.{refusals, judged}
 use Rattle.page_judge.specs.Exactly as page
+use Rattle.page_judge.specs.Enough.{Right, right-accepted}
 use Rattle.page_judge.specs.Swapped.{swapped, swapped-refused}
-use Rattle.page_settings.specs.Settings.{limitsFrom, pageProtections}
+use Rattle.page_settings.specs.Settings.{inDegrees, twiceTenths, limitsFrom, pageProtections}
 use Rattle.page_settings.specs.Good.{Good, accepted-good, short-protections}
 use Rattle.sample.specs.declared.Sample.{Sample}
-use Rattle.sample.specs.Measure.{trips, qualifies}
-use Rattle.guard_raised.specs.Words.{raisedAfter, raisedWordAfter}
+use Rattle.sample.specs.Cells.{noVolts, extremesOf}
+use Rattle.sample.specs.Measure.{measure, trips, qualifies}
+use Rattle.guard_raised.specs.Words.{raisedAfter, raisedWordAfter, blocksAfter}
+use Rattle.bleed_wants.specs.Steps.{voltsOf}
+use Rattle.bleed_wants.specs.Wants.{isCharging, wants}
 use Rattle.bleed_wants.specs.Word.{holdsCell}
 use Rattle.bleed.specs.Walk.History.{wantsCell}
 use Rattle.pack_refusals.specs.Samples.{sampleRefusals, commandRefusals}
@@ -38,13 +51,14 @@ use Rattle.pack.specs.Kept.{pageOf, pastAfter, packAfter, afterLoad}
 use Rattle.pack.specs.Calls.{page-accepted}
 use Rattle.pack.specs.After.{after, after-is}
 use Rattle.pack_shown.specs.declared.Decision.{Decision}
-use Rattle.pack_shown.specs.Shown.{switchAfter, switchesWord, decisionAfter}
+use Rattle.pack_shown.specs.Shown.{switchAfter, switchesWord, firstMode, modeOrder, flowMode, decisionAfter}
 use Rattle.bus_table.specs.Table.{rowOfCommand}
-use Rattle.bus_words.specs.Words.{sentWord, saidOf, wordAfter}
+use Rattle.bus_words.specs.Words.{statusWord, sentWord, saidOf, wordAfter}
 use Rattle.bus_words.specs.Demands.{word-is}
 use Rattle.bus.specs.declared.answer.Replied.the-variants as reply
 use Rattle.bus.specs.Replies.{replyRefusals, answerTo, answerAfter, bufferOf, bufferAfter}
 use Rattle.bus.specs.Demands as bus
+use Rattle.log_entries.specs.Entry as entry
 use Rattle.log_entries.specs.Entry.{readEntry}
 use Rattle.log_lines.specs.Lines.{linesOf}
 use Rattle.log_answers.specs.declared.Told.the-variants as told
@@ -55,9 +69,14 @@ use Rattle.log_texts.specs.Texts.{headerText}
 use Rattle.log.specs.Replay.{replayed}
 use Rattle.demands.specs.Answers as answers
 use Rattle.demands.specs.Answers.{IsAnswered, IsReplied, is-answered, is-replied}
+use Rattle.demands.specs.ByWords as words
+use Rattle.demands.specs.Levels as levels
+use Rattle.demands.specs.Levels.{tenthsOf}
+use Rattle.demands.specs.Said as said
+use Rattle.demands.specs.Said.{Words, placed}
 use Rattle.demands.specs.BledWords.{bledWordsAfter, words-fair, words-run, words-apart, words-few}
 use Rattle.demands.specs.History.{story, replay-says}
-use Rattle.demands.specs.Shown.{shown, shownWords, samples, wanted, MayBeOn, word-1, word-2, word-3}
+use Rattle.demands.specs.Shown.{shown, shownWords, samples, wanted, nobody, MayBeOn, word-1, word-2, word-3}
 use Rattle.demands.specs.Shown.{shown-is, shown-balance, shown-words, shown-each, raise-when, release-when, on-exactly, raised-stops}
 use Rattle.demands.specs.Shown.{never-shown, raised-own, clear-at-load, command-raises-none}
 use Rattle.demands.specs.TooFew.{waiting, too-few}
@@ -99,6 +118,13 @@ demand-1-page-accepted = page.accepted-exactly
 pub demand-1-page-refused : (bytes : List ℕ) (k w : ℕ) → (judged bytes ≡ Refused k w) ↔ Lowest (refusals bytes) k w
 demand-1-page-refused = page.refused-exactly
 
+-- "What no row fits is accepted or answered: there is no other reason to refuse." A page of its length, with its mark and its check byte, each
+-- word of which is right by what it is (a trip word with the release word behind it), is accepted: no word is held against any other.
+pub demand-1-page-right : (bytes : List ℕ) → length bytes ≡ bytesOf (layoutOf (length bytes)) → wordAt bytes 0 ≡ layoutOf (length bytes) .mark
+    → getD bytes (checkAt (layoutOf (length bytes))) 0 ≡ checkByte (take (checkAt (layoutOf (length bytes))) bytes)
+    → ((i : ℕ) → i ≤ layoutOf (length bytes) .last → Right bytes (kindOf (layoutOf (length bytes)) i) i) → judged bytes ≡ Accepted
+demand-1-page-right = right-accepted
+
 -- A sample.
 pub demand-1-sample-accepted : (p : Pack) (s : Sample) → (offered p s .verdict ≡ Accepted) ↔ NoFault (sampleRefusals (p .rules .n) s)
 demand-1-sample-accepted = answers.sample-accepted-exactly
@@ -129,6 +155,16 @@ demand-1-reply-refused p = bus.refused-exactly (p .rules .n) (p .sampled)
 -- A line of the log: 17 exactly if it is malformed, in any pack.
 pub demand-1-line-malformed : (p : Pack) (line : List ℕ) → isSeventeen (tell p line .told) ≡ isMalformed (readEntry line .kind)
 demand-1-line-malformed = seventeen-exactly
+
+-- "`F` has the command; `S` has current, temperature 1, temperature 2 and the cells": fields that are the texts of numbers in range say these numbers,
+-- whichever they are, and there is no other reason to call them malformed. Ten cells at most, in the places from the first on.
+pub demand-1-line-sample : (current : ℤ) (t1 t2 : ℕ) (cells : List ℕ) → InRange current → t1 ≤ 65535 → t2 ≤ 65535 → Words cells → length cells ≤ 10
+    → entry.fieldsSay ((83 ∷ []) ∷ signedText current ∷ decimal t1 ∷ decimal t2 ∷ map decimal cells)
+    ≡ entry.offer current t1 t2 (length cells) (placed (replicate 10 noVolts) 0 cells)
+demand-1-line-sample = said.sample-said
+
+pub demand-1-line-command : (c : ℕ) → c ≤ 65535 → entry.fieldsSay ((70 ∷ []) ∷ decimal c ∷ []) ≡ entry.command c
+demand-1-line-command = said.command-said
 
 -- ---- "It leaves the pack state and every lent buffer untouched."
 
@@ -189,6 +225,47 @@ module _ (bytes : List ℕ) (es : List Event) where
   pub demand-2-word : (c : ℕ) → sentWord (saidOf (after bytes es)) (rowOfCommand c) ≡ wordAfter (pageOf bytes) (pastAfter bytes es) c
   demand-2-word = word-is bytes es
 
+  -- "`balance` is as 0x46", and the mode is that of 0x41.
+  pub demand-2-balance-46 : wordAfter (pageOf bytes) (pastAfter bytes es) 0x46 ≡ shown bytes es .balance
+  demand-2-balance-46 = words.balance-as-46 bytes es
+
+  pub demand-2-mode-41 : wordAfter (pageOf bytes) (pastAfter bytes es) 0x41 ≡ shown bytes es .mode
+  demand-2-mode-41 = words.mode-as-41 bytes es
+
+  -- By the page's own words, at the latest accepted sample s.
+  module _ (taken : judged bytes ≡ Accepted) (s : Sample) (h : List Sample) (latest : samples bytes es ≡ s ∷ h) where
+    -- "A cell wants bleeding if the current is at least the charge detection current, no protection is raised, the cell is at or above the floor,
+    -- and it exceeds the lowest cell by more than the difference." Detection is word 6, the floor word 4, the difference word 5.
+    pub demand-2-wants : (k : ℕ) → getD (wanted bytes es) 0 nobody k
+        ≡ wants (isCharging (signedOf (wordAt bytes 6)) (s .current)) (not (eqb (shown bytes es .raised) 0)) (wordAt bytes 4) (wordAt bytes 5)
+        (extremesOf (s .cells) (s .count) .lowest .volts .0) (voltsOf (s .cells) k)
+    demand-2-wants = words.wants-by-words bytes taken es s h latest
+
+    -- So with a current below word 6 nothing is bled.
+    pub demand-2-no-charge-stops : isCharging (signedOf (wordAt bytes 6)) (s .current) ≡ false → shown bytes es .balance ≡ 0
+    demand-2-no-charge-stops = words.none-below-detection bytes taken es s h latest
+
+    -- "Mode: .. the number of the first raised one in the order 4, 3, 2, 0, 7, 6, 5; else 0x03 if current is at least charge detection; else 0x02."
+    pub demand-2-mode : shown bytes es .mode
+        ≡ firstMode (raisedAfter (pageOf bytes .limits) (samples bytes es)) modeOrder (flowMode (isCharging (signedOf (wordAt bytes 6)) (s .current)))
+    demand-2-mode = words.mode-by-words bytes taken es s h latest
+
+    -- "Battery status: 0x8000 if 0 is raised, 0x4000 if a raised one blocks charge, 0x1000 if 5, 6 or 7 is raised, 0x0800 if a raised one blocks
+    -- discharge, 0x0080 always, 0x0040 if the current is below charge detection; other bits 0."
+    pub demand-2-status : wordAfter (pageOf bytes) (pastAfter bytes es) 0x16
+        ≡ statusWord (raisedAfter (pageOf bytes .limits) (samples bytes es)) (blocksAfter (pageOf bytes .limits) (samples bytes es))
+        (isCharging (signedOf (wordAt bytes 6)) (s .current))
+    demand-2-status = words.status-by-words bytes taken es s h latest
+
+    -- "0x14, 0x15: word 8; n × word 7. Both 0 if a raised protection blocks charge."
+    pub demand-2-charging-current : wordAfter (pageOf bytes) (pastAfter bytes es) 0x14
+        ≡ cond (blocksAfter (pageOf bytes .limits) (samples bytes es) 0) 0 (wordAt bytes 8)
+    demand-2-charging-current = words.current-by-words bytes taken es s h latest
+
+    pub demand-2-charging-voltage : wordAfter (pageOf bytes) (pastAfter bytes es) 0x15
+        ≡ cond (blocksAfter (pageOf bytes .limits) (samples bytes es) 0) 0 (wordAt bytes 1 * wordAt bytes 7)
+    demand-2-charging-voltage = words.voltage-by-words bytes taken es s h latest
+
   -- Bus replies: the answer to every command, with a buffer of any length,
   pub demand-2-reply : (c room : ℕ) → answerTo (after bytes es) c room ≡ answerAfter (pageOf bytes) (pastAfter bytes es) c room
   demand-2-reply = bus.answer-is bytes es
@@ -215,6 +292,29 @@ module _ (bytes : List ℕ) (es : List Event) where
         → hasBit (shown bytes (offer s ∷ es) .raised) p
         ≡ not (lastAll (wordAt bytes (19 + 5 * p)) (qualifies (rowAt p) (limitsFrom bytes p)) (samples bytes (offer s ∷ es)))
     demand-2-released = release-when bytes es s taken p inside
+
+  -- What trips and what qualifies, by the page's own words 16 + 5p and 17 + 5p, for a sample of any reading.
+  module _ (s : Sample) (p : ℕ) where
+    -- "Cells in mV, current in mA (a signed 16-bit number ..)": cells and currents are held against the words as they stand.
+    module _ (plain : inDegrees (rowAt p .quantity) ≡ false) where
+      pub demand-2-trips : trips (rowAt p) (limitsFrom bytes p) s
+          ≡ reaches (rowAt p .direction) (levelOf (rowAt p .quantity) (wordAt bytes (16 + 5 * p))) (measure (rowAt p .quantity) s)
+      demand-2-trips = levels.trips-plain bytes p plain s
+
+      pub demand-2-qualifies : qualifies (rowAt p) (limitsFrom bytes p) s
+          ≡ reaches (backOf (rowAt p .direction)) (levelOf (rowAt p .quantity) (wordAt bytes (17 + 5 * p))) (measure (rowAt p .quantity) s)
+      demand-2-qualifies = levels.qualifies-plain bytes p plain s
+
+    -- Document 02: "C degrees now stand for exactly 10 × C + 2731.5 tenths. So an upper trip at C needs a sample of 10 × C + 2732 or more, and its
+    -- release one of 10 × C + 2731 or less; a lower limit is the mirror." Both sides are taken twice, so that they are whole.
+    module _ (taken : judged bytes ≡ Accepted) (inside : p < pageProtections bytes) (heat : inDegrees (rowAt p .quantity) ≡ true) where
+      pub demand-2-trips-degrees : trips (rowAt p) (limitsFrom bytes p) s
+          ≡ reaches (rowAt p .direction) (twiceTenths (signedOf (wordAt bytes (16 + 5 * p)))) (pos (2 * tenthsOf (rowAt p .quantity) s))
+      demand-2-trips-degrees = levels.trips-degrees bytes taken p inside heat s
+
+      pub demand-2-qualifies-degrees : qualifies (rowAt p) (limitsFrom bytes p) s
+          ≡ reaches (backOf (rowAt p .direction)) (twiceTenths (signedOf (wordAt bytes (17 + 5 * p)))) (pos (2 * tenthsOf (rowAt p .quantity) s))
+      demand-2-qualifies-degrees = levels.qualifies-degrees bytes taken p inside heat s
 
   -- Document 02: "On a 128-byte page 8 and 9 never rise." No protection that the page does not have is ever shown as raised,
   pub demand-2-never-rises : (p : ℕ) → pageProtections bytes ≤ p → hasBit (shown bytes es .raised) p ≡ false

@@ -4,6 +4,12 @@ pub mod Demands
 pub mod Shown
 -- What a sample, a command and a line are answered with, exactly.
 pub mod Answers
+-- Fields that are the texts of numbers in range are read as these numbers.
+pub mod Said
+-- What a sample must read to trip a protection and to release it, by the page's own words.
+pub mod Levels
+-- Who wants, the mode and the words on the bus, by the page's own words.
+pub mod ByWords
 -- What the replay writes for a log, line by line.
 pub mod History
 -- The third demand for the bled words of a history.

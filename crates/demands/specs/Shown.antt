@@ -382,14 +382,20 @@ unfolding wishAt wishes wants
 nobody-wants page s h e k =
     by-test (isCharging (page .rules .detection) (s .current)) (λ t. rw (t, e)) (λ t. rw t)
 
+-- Where nobody wants, nobody is bled.
+pub none-wanting : (page : Settings) (s : Sample) (h : List Sample) → ((k : ℕ) → wishAt page s h k ≡ false) → bledAfter page (s ∷ h) ≡ 0
+unfolding bledAfter bledWordAfter wishesAfter
+none-wanting page s h none =
+    ap cellsWord (walk-none (page .rules .k) (wishAt page s h) (resting (page .rules .r) (bledsAfter page h)) none
+    (order (page .rules .n) (startCell (page .rules .n) (length (wishesAfter page h)))) [])
+
 none-bled : (page : Settings) (h : List Sample) → (raisedWordAfter (page .limits) h ≡ 0 → ⊥) → bledAfter page h ≡ 0
 unfolding bledAfter bledWordAfter wishesAfter
 none-bled page [] some = refl
 none-bled page (s ∷ h) some =
     let up : anyRaisedAfter (page .limits) (s ∷ h) ≡ true =
     anyRaisedAfter-word (page .limits) (s ∷ h) ∙ rw (ne-eqb (raisedWordAfter (page .limits) (s ∷ h)) 0 some) in
-    ap cellsWord (walk-none (page .rules .k) (wishAt page s h) (resting (page .rules .r) (bledsAfter page h)) (nobody-wants page s h up)
-    (order (page .rules .n) (startCell (page .rules .n) (length (wishesAfter page h)))) [])
+    none-wanting page s h (nobody-wants page s h up)
 
 -- While anything is raised, whatever its mask, nothing is bled.
 pub raised-stops : (bytes : List ℕ) (es : List Event) → (shown bytes es .raised ≡ 0 → ⊥) → shown bytes es .balance ≡ 0

@@ -57,8 +57,11 @@ anyRaised-word ps = any-bits (raisedAt ps) protections (omega arith)
 unfoldable pub blocksOne : ℕ → Protection → Bool
 blocksOne switch p = isRaised (p .alarm) && hasBit (p .limits .mask) switch
 
+abbrev pub blocksAt : ℕ → List Protection → ℕ → Bool
+blocksAt switch ps p = blocksOne switch (getD ps p noProtection)
+
 unfoldable pub blocksAny : ℕ → List Protection → Bool
-blocksAny switch ps = anyOf (λ p. blocksOne switch (getD ps p noProtection)) protections
+blocksAny switch ps = anyOf (blocksAt switch ps) protections
 
 -- ---- what the words say
 
@@ -93,7 +96,7 @@ module _ (ls : List Limits) (h : List Sample) (P : ℕ) (most : P ≤ protection
 -- ---- the array that stands for a history says what the history says
 
 module _ (ls : List Limits) (h : List Sample) where
-  raised-at : (p : ℕ) → p < protections → raisedAt (protectionsAfter ls h) p ≡ raisedAfter ls h p
+  pub raised-at : (p : ℕ) → p < protections → raisedAt (protectionsAfter ls h) p ≡ raisedAfter ls h p
   raised-at p q = rw (protections-at ls h p q) (protection-raised (rowAt p) (limitsAt ls p) h)
 
   pub raisedWord-is : raisedWord (protectionsAfter ls h) ≡ raisedWordAfter ls h
@@ -104,7 +107,7 @@ module _ (ls : List Limits) (h : List Sample) where
   unfolding anyRaised anyRaisedAfter
   anyRaised-is = any-same (raisedAt (protectionsAfter ls h)) (raisedAfter ls h) protections raised-at
 
-  blocks-at : (switch p : ℕ) → p < protections
+  pub blocks-at : (switch p : ℕ) → p < protections
       → blocksOne switch (getD (protectionsAfter ls h) p noProtection) ≡ raisedAfter ls h p && hasBit (limitsAt ls p .mask) switch
   unfolding blocksOne
   blocks-at switch p q =

@@ -1,12 +1,15 @@
 // What the raised protections say: the word of them, and which switches they block.
 ghost use mathlib.Core.Path.{_≡_};
 ghost use Rattle.guard.specs.Runs.{isRaised};
-ghost use Rattle.guard_raised.specs.Words.{raisedWord, blocksOne, blocksAny};
+ghost use Rattle.protections.specs.Table.{protections};
+ghost use Rattle.guard_raised.specs.Words.{raisedAt, blocksAt, raisedWord, blocksOne, blocksAny};
+ghost use Rattle.guard_raised.specs.Lowest.{lowestOf};
 use guard::rule::Alarm;
 use guard::rule::Protection;
 use laws::has_bit;
 use laws::with_bit_if;
 use protections::PROTECTIONS;
+use units::ProtectionNo;
 
 fn is_raised(a: Alarm) -> bool
     ensures { λ r. ⌜ r ≡ isRaised a ⌝ }
@@ -57,4 +60,35 @@ pub fn blocks(ps: [Protection; PROTECTIONS], switch: u8) -> bool
         i += 1;
     }
     false
+}
+
+// The lowest raised protection; the number past the last one where none is.
+pub fn lowest_raised(ps: [Protection; PROTECTIONS]) -> ProtectionNo
+    ensures { λ r. ⌜ r ≡ record { 0 = lowestOf (raisedAt ps) protections } ⌝ }
+{
+    let mut i: usize = 0;
+    while i < PROTECTIONS {
+        let p = ps[i];
+        let a = p.alarm;
+        if is_raised(a) {
+            return ProtectionNo(i as u8);
+        }
+        i += 1;
+    }
+    ProtectionNo(i as u8)
+}
+
+// The lowest raised protection that blocks the switch, 0 for charge and 1 for discharge; the number past the last one where none does.
+pub fn lowest_blocking(ps: [Protection; PROTECTIONS], switch: u8) -> ProtectionNo
+    ensures { λ r. ⌜ r ≡ record { 0 = lowestOf (blocksAt switch ps) protections } ⌝ }
+{
+    let mut i: usize = 0;
+    while i < PROTECTIONS {
+        let p = ps[i];
+        if blocks_one(p, switch) {
+            return ProtectionNo(i as u8);
+        }
+        i += 1;
+    }
+    ProtectionNo(i as u8)
 }

@@ -23,6 +23,11 @@ blockedWord ps = bitsOf (λ switch. blocksAny switch ps) 2
 unfoldable pub watchOf : List Protection → Watch
 watchOf ps = record { bands = bandsTo ps protections; raised = raisedWord ps; blocked = blockedWord ps }
 
+-- A fact of a pack state, of two of its fields: what it keeps beside its protections is what they say. A load and every later call hand back a
+-- state that has it (`Watched`, pack_state/specs/State.antt).
+abbrev pub Keeps : List Protection → Watch → Type 0
+Keeps ps w = w ≡ watchOf ps
+
 -- Every protection, one sample on, and what is then kept of them.
 unfoldable pub guardedBy : Extremes → Sample → List Protection → Guarded
 guardedBy e s ps = record { protections = stepAll e s ps; watch = watchOf (stepAll e s ps) }

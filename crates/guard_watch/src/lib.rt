@@ -5,7 +5,7 @@ ghost use Prim.Native.Nat.{_≤_};
 ghost use lib.Signed.{ltZ};
 ghost use Rattle.protections.specs.Table.{protections};
 ghost use Rattle.guard_watch.specs.Bands.{placeOf, inside, insideAt, isCalm, nowhere, isStill, shortOf, narrowed, narrowedAt, bandsTo};
-ghost use Rattle.guard_watch.specs.Watch.{blockedWord, watchOf, guardedBy};
+ghost use Rattle.guard_watch.specs.Watch.{blockedWord, watchOf, Keeps, guardedBy};
 use guard::all::step_all;
 use guard::rule::Alarm;
 use guard::rule::Protection;
@@ -232,7 +232,7 @@ pub fn watch_of(ps: [Protection; PROTECTIONS]) -> Watch
 
 // Every protection, one sample on, and what is then kept of them. Most samples move none: then both stay.
 pub fn step(ps: [Protection; PROTECTIONS], w: Watch, s: Sample, e: Extremes) -> Guarded
-    requires { ⌜ w ≡ watchOf ps ⌝ }
+    requires { ⌜ Keeps ps w ⌝ }
     ensures { λ r. ⌜ r ≡ guardedBy e s ps ⌝ }
 {
     let bands = w.bands;

@@ -2,6 +2,9 @@
 ghost use mathlib.Core.Path.{_≡_};
 ghost use Prim.Native.Nat.{_≤_};
 ghost use lib.ListN.{length};
+ghost use Rattle.refusals.specs.Answers.{answerOf};
+ghost use Rattle.refusals.specs.Refusals.{given};
+ghost use Rattle.page_judge.specs.Page.{refusals};
 ghost use Rattle.text_writing.specs.Placing.{Put};
 ghost use Rattle.pack.specs.Kept.{Kept, afterLoad};
 ghost use Rattle.log_lines.specs.Run.{closing};
@@ -31,6 +34,7 @@ pub fn put_closing(buf: &mut [u8], held: usize) -> usize
 // Loads a page, and writes the header, or for a refused page its one line.
 pub fn begin(page: &[u8], out: &mut [u8]) -> Begun
     ensures { λ r. ⌜ (r .verdict ≡ afterLoad (now (page .entry)) .verdict) × (r .pack ≡ afterLoad (now (page .entry)) .pack) ⌝ }
+    ensures { λ r. ⌜ answerOf (r .verdict) ≡ given (refusals (now (page .entry))) ⌝ }
     ensures { λ r. ⌜ Opened (now (out .entry)) (r .verdict) (r .written) (now (out .exit)) ⌝ }
     ensures { λ r. ⌜ Kept (r .pack) ⌝ }
 {

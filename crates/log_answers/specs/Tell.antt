@@ -2,10 +2,13 @@
 -- Assumes nothing.
 use Prim.Native.Nat.{ℕ, _<_}
 use mathlib.Core.Path.{_≡_, refl, ap, _∙_}
-use mathlib.Core.List.{List}
+use mathlib.Core.Bool.{false}
+use mathlib.Core.List.{List, [], _∷_}
 use lib.ListN.{length}
+use Rattle.refusals.specs.Refusals.{Refusal, refusal, whole}
 use Rattle.refusals.specs.declared.Verdict.{Verdict}
 use Rattle.refusals.specs.declared.Verdict.the-variants as verdict
+use Rattle.pack_refusals.specs.Samples.{sampleRefusals, commandRefusals}
 use Rattle.pack_state.specs.declared.Pack.{Pack}
 use Rattle.pack.specs.declared.Answered.{Answered}
 use Rattle.pack.specs.Answers.{offered, commanded, answered}
@@ -36,6 +39,12 @@ abbrev pub answeredAs : Kind → Pack → Entry → Answered
 answeredAs Offer p e = offered p (e .sample)
 answeredAs Command p e = commanded p (e .command)
 answeredAs Malformed p e = answered (verdict.Refused 17 0) p
+
+-- The rows for a line: those of its sample or of its command, and 17 for a malformed one, which names word 0.
+abbrev pub lineRefusals : Kind → Pack → Entry → List Refusal
+lineRefusals Offer p e = sampleRefusals (p .rules .n) (e .sample)
+lineRefusals Command p e = commandRefusals (e .command)
+lineRefusals Malformed p e = refusal 17 (whole false) ∷ []
 
 -- What a line that was read does to a pack.
 abbrev pub tellEntry : Pack → Entry → Outcome

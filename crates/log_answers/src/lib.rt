@@ -1,7 +1,9 @@
 // What a line of the log does to a pack, as a value: its answer, before it is text, and the pack behind it.
 ghost use mathlib.Core.Path.{_≡_};
+ghost use Rattle.refusals.specs.Answers.{answerOf};
+ghost use Rattle.refusals.specs.Refusals.{given};
 ghost use Rattle.pack.specs.Kept.{Kept};
-ghost use Rattle.log_answers.specs.Tell.{answeredAs, outcomeOf, tell, tellEntry};
+ghost use Rattle.log_answers.specs.Tell.{answeredAs, lineRefusals, outcomeOf, tell, tellEntry};
 use log_entries::Entry;
 use log_entries::Kind;
 use pack::Answered;
@@ -50,6 +52,7 @@ fn outcome_of(kind: Kind, a: Answered) -> Outcome
 pub fn answered_by(p: Pack, e: Entry) -> Answered
     requires { ⌜ Kept p ⌝ }
     ensures { λ r. ⌜ r ≡ answeredAs (e .kind) p e ⌝ }
+    ensures { λ r. ⌜ answerOf (r .verdict) ≡ given (lineRefusals (e .kind) p e) ⌝ }
     ensures { λ r. ⌜ Kept (r .pack) ⌝ }
 {
     let kind = e.kind;

@@ -39,6 +39,13 @@ pub sample-read : (readEntry (quoted "S\t500\t2980\t2980\t4000\t4020") ≡ offer
 unfolding readEntry fieldsSay readSample firstOf secondOf cellsFrom readCommand lacks fieldsOf numberTo digitsTo readSigned
 sample-read = (refl, refl)
 
+-- 0 is a number in range everywhere: a current, both temperatures and cells of 0, and a command of 0
+pub zeros-read : (readEntry (quoted "S\t0\t2980\t0\t0\t4000\t0") ≡ offer (pos 0) 2980 0 3 (mv 0 ∷ mv 4000 ∷ mv 0 ∷ zeros 7))
+    × (readEntry (quoted "S\t-1\t0\t2980\t0") ≡ offer (negsuc 0) 0 2980 1 (zeros 10))
+    × (readEntry (quoted "F\t0") ≡ command 0)
+unfolding readEntry fieldsSay readSample firstOf secondOf cellsFrom readCommand lacks fieldsOf numberTo digitsTo readSigned
+zeros-read = (refl, refl, refl)
+
 -- where each number of an `S` line goes: eleven unlike ones, and no cell behind the eighth
 pub sample-fields : readEntry (quoted "S\t-7\t2981\t2992\t3001\t3002\t3003\t3004\t3005\t3006\t3007\t3008")
     ≡ record {

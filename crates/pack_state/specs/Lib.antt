@@ -10,3 +10,5 @@ pub mod Absent
 pub mod Cases
 -- A computed case in which n, K and R are unlike.
 pub mod Unlike
+-- Computed cases: who wants and who is bled where the floor, the difference and the detection current are other ones.
+pub mod Wishes

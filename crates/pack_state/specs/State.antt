@@ -13,7 +13,7 @@ use Rattle.sample.specs.None.{noSample}
 use Rattle.sample.specs.declared.Extremes.{Extremes}
 use Rattle.guard.specs.Steps.{protectionsAfter, stepAll}
 use Rattle.guard_raised.specs.Words.{anyRaisedAfter, anyRaised}
-use Rattle.guard_watch.specs.Watch.{watchOf}
+use Rattle.guard_watch.specs.Watch.{watchOf, Keeps}
 use Rattle.page_settings.specs.declared.Rules.{Rules}
 use Rattle.page_settings.specs.declared.Settings.{Settings}
 use Rattle.bleed_wants.specs.Wants.{isCharging}
@@ -98,7 +98,7 @@ module _ (page : Settings) where
 
 -- What is kept beside the protections is what they say. It is so of every state that a past stands for.
 abbrev pub Watched : Pack → Type 0
-Watched p = p .watch ≡ watchOf (p .protections)
+Watched p = Keeps (p .protections) (p .watch)
 
 pub state-watched : (page : Settings) (p : Past) → Watched (stateAfter page p)
 unfolding stateAfter

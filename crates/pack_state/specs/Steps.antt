@@ -69,10 +69,10 @@ pack-same ep eb et = cc
 -- ---- what an accepted page gives
 
 module _ (page : Settings) (good : Good page) where
-  some : 1 ≤ page .rules .n
+  pub some : 1 ≤ page .rules .n
   some = let h = good .n in omega arith
 
-  ten : page .rules .n ≤ 10
+  pub ten : page .rules .n ≤ 10
   ten = good .n .1
 
   limited : 1 ≤ page .rules .r
@@ -87,11 +87,11 @@ module _ (page : Settings) (good : Good page) where
   -- ---- bleeding
 
   -- The code's word of the cells that want at a sample.
-  abbrev wantOf : Sample → List Protection → ℕ
+  abbrev pub wantOf : Sample → List Protection → ℕ
   wantOf s ps = wantAt (page .rules) s (extremesOf (s .cells) (s .count)) (anyRaised ps)
 
   -- It shows who wants.
-  want-shows : (s : Sample) (h : List Sample)
+  pub want-shows : (s : Sample) (h : List Sample)
       → Shows (page .rules .n) (wantOf s (protectionsAfter (page .limits) (s ∷ h))) (wishAt page s h)
   unfolding wantAt wishAt
   want-shows s h = rw (anyRaised-is (page .limits) (s ∷ h)) (wanting-shows (page .rules .n) _ _ _ _ _ (s .cells) ten)

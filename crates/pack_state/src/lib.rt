@@ -18,6 +18,7 @@ use units::CellNo;
 // What bleeding keeps: of the latest accepted sample its start cell, who rested and who was bled; for the next one the start
 // cell, and at how many samples in a row up to now each cell was bled. Bit k - 1 of a word stands for cell k. No word and no line shows
 // `begun` and `rested`; `begun-is` and `rested-is` (specs/Steps) say what they are.
+#[repr(C)]
 pub struct Balance {
     pub begun: CellNo,
     pub rested: u16,
@@ -50,8 +51,8 @@ fn next_tick(t: u32) -> u32
     0
 }
 
-// The cells that want bleeding, by whether a protection is raised after the sample.
-fn want_at(r: Rules, s: Sample, e: Extremes, raised: bool) -> u16
+// The cells that want bleeding at a sample whose highest and lowest cell are e, by whether a protection is raised after it.
+pub fn want_at(r: Rules, s: Sample, e: Extremes, raised: bool) -> u16
     ensures { λ w. ⌜ w ≡ wantAt r s e raised ⌝ }
 {
     let charging = is_charging(r.detection, s.current);

@@ -9,7 +9,7 @@ use lib.ListN.{replicate, set}
 use Rattle.laws.specs.Numbered.{countFrom}
 use Rattle.units.specs.Signed.{signedOf}
 use Rattle.protections.specs.Table.{rowAt, table}
-use Rattle.page_words.specs.Ranges.{wordAt, levelOf}
+use Rattle.page_words.specs.Ranges.{wordAt, within, levelOf}
 use Rattle.page_faults.specs.Kinds.{shortLayout, longLayout, layoutOf, checkAt, bytesOf, tripWord, kindOf}
 use Rattle.page_faults.specs.Met.{orderMet, onRow, kindMeets, meets}
 use Rattle.page_faults.specs.declared.Layout.{Layout}
@@ -120,6 +120,23 @@ past-the-last
     ≡ replicate 30 true
 unfolding meets kindOf kindMeets onRow wordAt
 past-the-last = refl
+
+-- "There is no other reason to refuse": K of 5 with two cells; a floor and a difference of 6000 mV each; a detection current of 32767 mA.
+abbrev free : List ℕ
+free = set (set (set (set (set (set (set (set (replicate 128 0) 2 2) 4 5) 8 0x70) 9 0x17) 10 0x70) 11 0x17) 12 0xFF) 13 0x7F
+
+no-other-setting : map (meets shortLayout 6 free) (1 ∷ 2 ∷ 4 ∷ 5 ∷ 6 ∷ []) ≡ replicate 5 true
+unfolding meets kindOf kindMeets onRow wordAt within
+no-other-setting = refl
+
+-- An over charge trip below 0 mA, an over discharge and a short trip above 0 mA, a cell trip of 1 and one of 6000 mV, and a heat trip below zero
+-- are levels as any other: each is held against its own release level alone.
+no-other-order
+    : (orderMet 2 0xFFFF 0xFFFE ∷ orderMet 3 5 6 ∷ orderMet 4 5 6 ∷ orderMet 0 1 0 ∷ orderMet 0 6000 5999 ∷ orderMet 1 0 1 ∷ orderMet 1 5999 6000
+    ∷ orderMet 5 0xFFFF 0xFFFE ∷ orderMet 8 119 120 ∷ [])
+    ≡ replicate 9 true
+unfolding orderMet levelOf signedOf rowAt table
+no-other-order = refl
 
 -- Cells are compared as they stand, currents and temperatures as signed numbers: 0xFFFF is 65535 mV, but -1 mA and -1 degree.
 in-order

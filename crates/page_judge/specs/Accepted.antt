@@ -3,9 +3,9 @@
 use mathlib.Core.Path.{_≡_, refl, sym, _∙_, subst}
 use mathlib.Core.Bool.{Bool, true, false, cond}
 use mathlib.Core.List.{List}
-use Prim.Native.Nat.{ℕ, zero, suc, _+_, _<_, _≤_}
+use Prim.Native.Nat.{ℕ, zero, suc, _+_, _*_, _<_, _≤_}
 use native.Mathlib.Omega.{arith}
-use native.Mathlib.Nat.{not-suc-le-zero, zero-add, add-zero}
+use native.Mathlib.Nat.{not-suc-le-zero, zero-add, add-zero, le-refl}
 use borrow.Author.Tests.{leb-true, eqb-true}
 use lib.Dec.{leb, eqb}
 use lib.ListN.{length, getD, take}
@@ -17,7 +17,7 @@ use Rattle.protections.specs.Direction.{inOrder}
 use Rattle.protections.specs.Limits.{leastRun, mostRun, mostMask}
 use Rattle.protections.specs.Table.{rowAt}
 use Rattle.page_words.specs.Ranges.{wordAt, within, levelFits, levelOf}
-use Rattle.page_faults.specs.Kinds.{layoutOf, checkAt, bytesOf, has-room, frontKind, tripWord, partKind, kindOf, kind-front, kind-part, Inside}
+use Rattle.page_faults.specs.Kinds.{layoutOf, checkAt, bytesOf, both, has-room, frontKind, tripWord, partKind, kindOf, kind-front, kind-part, Inside}
 use Rattle.page_faults.specs.Met.{levelMet, orderMet, onRow, kindMeets, meets}
 use Rattle.page_faults.specs.declared.Layout.{Layout}
 use Rattle.page_faults.specs.declared.Kind.{Kind}
@@ -129,6 +129,10 @@ module _ (l : Layout) (room : tripWord (l .protections) ≤ l .last) (b : List �
         order = subst (λ (i : ℕ). kindMeets (Trip (no p)) 8 b i ≡ true) z (level 8 0 (omega arith) (rows .3));
       }
 
+last-kind : (n : ℕ) → kindOf (layoutOf n) (layoutOf n .last) ≡ Last
+unfolding kindOf
+last-kind = both (λ (l : Layout). kindOf l (l .last) ≡ Last) refl refl
+
 module _ (b : List ℕ) (e : judged b ≡ Accepted) where
   -- The layout of the page.
   abbrev own : Layout
@@ -152,3 +156,11 @@ module _ (b : List ℕ) (e : judged b ≡ Accepted) where
   -- So are the words of each protection that a page of this length has.
   pub accepted-limits : (p : ℕ) → p < layoutOf (length b) .protections → Limited b p
   accepted-limits = words-limited own (has-room (length b)) b (tests .faults)
+
+  -- The low byte of the last word, in front of the check byte, is 0.
+  pub accepted-last : getD b (2 * layoutOf (length b) .last) 0 ≡ 0
+  unfolding kindMeets onRow
+  accepted-last =
+      let i : ℕ = own .last in
+      let met = row-met own (has-room (length b)) b (tests .faults) 5 (rows own (has-room (length b)) b (tests .faults) .0) i (le-refl i) in
+      eqb-true (getD b (2 * i) 0) 0 (subst (λ (k : Kind). kindMeets k 5 b i ≡ true) (last-kind (length b)) met)

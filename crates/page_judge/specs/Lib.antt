@@ -14,3 +14,7 @@ pub mod Worked
 mod Long
 -- Computed verdicts on pages whose first word is another.
 pub mod Marks
+-- "There is no other reason to refuse."
+pub mod Enough
+-- Computed: pages that look odd and are accepted.
+mod Odd

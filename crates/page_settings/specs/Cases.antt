@@ -128,7 +128,7 @@ winter-loaded = refl
 
 -- ---- a page whose words are all unlike: each is read where it belongs
 
-abbrev unlike : Settings
+abbrev pub unlike : Settings
 unlike =
     record {
       rules =
@@ -156,7 +156,7 @@ unlike =
           ∷ [];
     }
 
-unlike-loaded : loadedOf unlikePage ≡ record { verdict = Accepted; settings = unlike }
+pub unlike-loaded : loadedOf unlikePage ≡ record { verdict = Accepted; settings = unlike }
 unfolding loadedOf settingsOf rulesOf limitsOf limitsFor limitsFrom sampleLevel inDegrees levelOf signedOf judged refusals meets kindOf kindMeets onRow
     levelMet orderMet listOf listFrom wordAt within degreesFit levelFits rowAt table checkByte remainder withByte timesXs timesX
 unlike-loaded = refl

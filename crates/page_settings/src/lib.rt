@@ -27,6 +27,7 @@ use units::signed_of;
 
 // The page's words 1 to 8: cells n, most cells bled at once K, run limit R, balance floor and difference, charge detection current,
 // charging voltage per cell and charging current.
+#[repr(C)]
 pub struct Rules {
     pub n: u8,
     pub k: u8,

@@ -40,6 +40,7 @@ pub fn back_of(d: Direction) -> Direction
 }
 
 // What a page says of one protection: its levels, in the unit of what it looks at, the two run lengths, the switch mask.
+#[repr(C)]
 pub struct Limits {
     pub trip: Level,
     pub release: Level,

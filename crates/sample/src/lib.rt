@@ -12,6 +12,7 @@ use units::MilliVolts;
 use units::ten_at_most;
 
 // A sample: the first `count` entries are cells 1 to `count`, and the entries past them are no cells.
+#[repr(C)]
 pub struct Sample {
     pub count: u8,
     pub cells: [MilliVolts; 10],

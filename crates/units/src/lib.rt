@@ -4,18 +4,22 @@ ghost use Rattle.units.specs.Cells.{tenAtMost};
 ghost use Rattle.units.specs.Signed.{signedOf, wordOf};
 
 // Millivolts: a cell, the balance floor and difference, the charging voltage.
+#[repr(C)]
 pub struct MilliVolts(pub u16);
 
 // Tenths of a kelvin: a temperature sample.
+#[repr(C)]
 pub struct DeciKelvin(pub u16);
 
 // The number of a cell, from 1 as document 01 counts them.
+#[repr(C)]
 pub struct CellNo(pub u8);
 
 // The number p of a protection, from 0.
 pub struct ProtectionNo(pub u8);
 
 // What a protection looks at and the levels it is held against, in the unit of the samples: mV, mA or tenths of a kelvin.
+#[repr(C)]
 pub struct Level(pub i32);
 
 // A trip or release level in the unit of the page: mV, mA or degrees.

@@ -24,7 +24,7 @@ use Rattle.bleed.specs.Walk.Steps.{isCell, chosenWord, Chosen, besideTak
 -- ---- the order of the walk is the next cell, again and again
 
 -- The list is the way from a, one cell after the other.
-abbrev Way : ℕ → ℕ → List ℕ → Type 0
+abbrev pub Way : ℕ → ℕ → List ℕ → Type 0
 Way n a [] = Unit {0}
 Way n a (k ∷ cells) = (k ≡ a) × Way n (nextCell n a) cells
 
@@ -44,14 +44,14 @@ high-way n a zero l h e w = absurd (not-suc-le-zero h)
 high-way n a (suc zero) l h e w = (refl, rw (le-ltb a n (omega arith)) w)
 high-way n a (suc (suc m)) l h e w = (refl, rw (lt-ltb a n (omega arith), add-one) (high-way n (suc a) (suc m) l (zero-lt-suc m) (omega arith) w))
 
-order-way : (n s : ℕ) → 1 ≤ s → s ≤ n → Way n s (order n s)
+pub order-way : (n s : ℕ) → 1 ≤ s → s ≤ n → Way n s (order n s)
 order-way n s a b = high-way n s (suc n - s) (upFrom 1 (s - 1)) (omega arith) (omega arith) (low-way n 1 (s - 1) (omega arith))
 
 length-up : (a m : ℕ) → length (upFrom a m) ≡ m
 length-up a zero = refl
 length-up a (suc m) = ap suc (length-up (suc a) m)
 
-length-order : (n s : ℕ) → 1 ≤ s → s ≤ n → length (order n s) ≡ n
+pub length-order : (n s : ℕ) → 1 ≤ s → s ≤ n → length (order n s) ≡ n
 length-order n s a b = rw (length-append, length-up, length-up) (omega arith)
 
 -- ---- each cell is asked once
@@ -94,7 +94,7 @@ neighbour-cases k (d ∷ t) e =
     (neighbour-cases k t u))
     (or-cases (neighbours k d) (hasNeighbour k t) e)
 
-beside-is : (t : List ℕ) (k : ℕ) → Small t → besideTaken (cellsWord t) k ≡ hasNeighbour k t
+pub beside-is : (t : List ℕ) (k : ℕ) → Small t → besideTaken (cellsWord t) k ≡ hasNeighbour k t
 unfolding besideTaken
 beside-is t k s =
     rw (cellsWord-bit t (k - 2) s, cellsWord-bit t k s) (test-ext (ltb 1 k && has (suc (k - 2)) t || has (suc k) t) (hasNeighbour k t)
@@ -143,15 +143,15 @@ may-few K want rest taken k w r b = rw (w, r, b)
 
 -- What is known of the taken cells, with one more or not.
 
-small-more : (b : Bool) (k : ℕ) (t : List ℕ) → (1 ≤ k) × (k ≤ 16) → Small t → Small (cond b (k ∷ t) t)
+pub small-more : (b : Bool) (k : ℕ) (t : List ℕ) → (1 ≤ k) × (k ≤ 16) → Small t → Small (cond b (k ∷ t) t)
 small-more true k t h s d e = ⊎-elim (λ u. rw (eqb-true d k u) h) (s d) (or-cases (eqb d k) (has d t) e)
 small-more false k t h s d e = s d e
 
-once-more : (b : Bool) (k : ℕ) (t : List ℕ) → has k t ≡ false → Once t → Once (cond b (k ∷ t) t)
+pub once-more : (b : Bool) (k : ℕ) (t : List ℕ) → has k t ≡ false → Once t → Once (cond b (k ∷ t) t)
 once-more true k t h o = (h, o)
 once-more false k t h o = o
 
-new-more : (b : Bool) (k : ℕ) (cells t : List ℕ) → has k cells ≡ false → ((d : ℕ) → has d (k ∷ cells) ≡ true → has d t ≡ false)
+pub new-more : (b : Bool) (k : ℕ) (cells t : List ℕ) → has k cells ≡ false → ((d : ℕ) → has d (k ∷ cells) ≡ true → has d t ≡ false)
     → (d : ℕ) → has d cells ≡ true → has d (cond b (k ∷ t) t) ≡ false
 new-more true k cells t h new d e =
     rw (ne-eqb d k (λ z. clash (rw z at e) h)) (new d (or-right (eqb d k) (has d cells) e))
@@ -163,7 +163,7 @@ module _ (n K want rest : ℕ) where
   may-is t k s o = rw (beside-is t k s, cellsWord-ones t s o)
 
   -- One cell of the walk.
-  one-is : (t : List ℕ) (k : ℕ) → Small t → Once t → 1 ≤ k
+  pub one-is : (t : List ℕ) (k : ℕ) → Small t → Once t → 1 ≤ k
       → takeOne K want rest (cellsWord t) k ≡ cellsWord (cond (takes K (holdsCell want) (holdsCell rest) k t) (k ∷ t) t)
   unfolding takeOne withCellIf withBitIf
   one-is t k s o h =
@@ -190,7 +190,7 @@ pub record InPack (n k : ℕ) : Type 0 where
   pub first : 1 ≤ k
   pub last : k ≤ n
 
-cell-says : (n k : ℕ) → isCell n k ≡ true → InPack n k
+pub cell-says : (n k : ℕ) → isCell n k ≡ true → InPack n k
 unfolding isCell
 cell-says n k e =
     let both = and-left (ltb 0 k && leb k n) (leb n 10) e in
@@ -200,7 +200,7 @@ cell-says n k e =
       last = leb-true k n (and-right (ltb 0 k) (leb k n) both);
     }
 
-cell-is : (n k : ℕ) → InPack n k → isCell n k ≡ true
+pub cell-is : (n k : ℕ) → InPack n k → isCell n k ≡ true
 unfolding isCell
 cell-is n k c = rw (lt-ltb 0 k (c .first), le-leb k n (c .last), le-leb n 10 (c .ten))
 
@@ -264,7 +264,7 @@ chosen-none n K rest start =
 
 -- ---- one turn of the loop
 
-after-one : (i : ℕ) → suc i - 1 ≡ i
+pub after-one : (i : ℕ) → suc i - 1 ≡ i
 after-one i = omega arith
 
 -- What is left of the walk, when one cell more is asked.

@@ -4,14 +4,14 @@ use Prim.Native.Nat.{_-_, _%_, _≤_}
 use lib.ListN.{length}
 use Rattle.text_writing.specs.Putting.{put-length}
 use Rattle.pack.specs.Kept.{Kept}
-use Rattle.bus_lines.specs.Lines.{room, Putting, putting-start, putting-place, putting-on, putting-end, roomed-not}
+use Rattle.bus_lines.specs.Lines.{room, wordLine, Putting, putting-start, putting-place, putting-on, putting-end, roomed-not}
 use native.Mathlib.Omega.{arith}
 use borrow.Author.Needs.{needs}
 use Rattle.bus_lines.proofs.put_words.Statement.{statement}
 use Rattle.bus_lines.proofs.put_words.Tie as tie
 
 abbrev Inv-loop : tie.InvT-loop
-Inv-loop p out₀ at₀ c₀ out at c = Putting out₀ p at c out × (c ≤ 256) × (room ≤ length out₀) × (length out ≡ length out₀) × Kept p
+Inv-loop p out₀ at₀ c₀ out at c = Putting out₀ (wordLine p) at c out × (c ≤ 256) × (room ≤ length out₀) × (length out ≡ length out₀) × Kept p
 
 abbrev μ-loop : tie.MeasureT-loop
 μ-loop p out₀ at₀ c₀ out at c = 256 - c

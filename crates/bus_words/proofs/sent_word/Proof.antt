@@ -1,6 +1,5 @@
 -- `bus_words::sent_word` meets its contract. Assumes nothing.
 use Rattle.bus_words.specs.Words.{sentWord}
-use Rattle.bus_words.specs.Bounds.{kept-bounded}
 use borrow.Author.Needs.{needs}
 use Rattle.bus_words.proofs.sent_word.Statement.{statement}
 use Rattle.bus_words.proofs.sent_word.Tie as tie
@@ -18,7 +17,7 @@ enum-known-row-2 : tie.Need-enum-known-row-2
 enum-known-row-2 c = search needs
 
 pack-word-requires : tie.Need-pack-word-requires
-pack-word-requires c κs = kept-bounded _ (c .before .before .before .pre)
+pack-word-requires c κs = c .before .before .before .pre
 
 returns : tie.Need-returns
 unfolding sentWord

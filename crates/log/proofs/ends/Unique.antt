@@ -30,5 +30,5 @@ begin-one : (κs : Lfts 2) (a : Dens κs begin-kinds.ps) (x y : resT begin-kinds
 begin-one κs a x y s t p q =
     let v : x .verdict ≡ y .verdict = p .0 .0 ∙ sym (q .0 .0) in
     let k : x .pack ≡ y .pack = p .0 .1 ∙ sym (q .0 .1) in
-    let o = opened-one (p .1 .0) (rw (sym v) at (q .1 .0)) in
+    let o = opened-one (p .1 .1 .0) (rw (sym v) at (q .1 .1 .0)) in
     (begun-same v k (o .0), o .1)

@@ -16,7 +16,7 @@ same-length c = search needs
 
 returns : tie.Need-returns
 returns c =
-    let a = c .before .before .before .before .before .load .ensures in ((ap (λ (x : Answered). x .verdict) (a .0), ap (λ (x : Answered). x .pack) (a .0)), (c .before .before .put-opening .ensures, a .1 .1))
+    let a = c .before .before .before .before .before .load .ensures in ((ap (λ (x : Answered). x .verdict) (a .0), ap (λ (x : Answered). x .pack) (a .0)), (a .1 .0, (c .before .before .put-opening .ensures, a .1 .1)))
 
 pub begin-spec : {M : Type 1} → statement M
 begin-spec = tie.close (tie.spec load-requires put-opening-requires same-length returns)

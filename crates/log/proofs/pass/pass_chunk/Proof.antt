@@ -43,7 +43,7 @@ loop-again c =
     let i = c .before .before .before .before .before .loop .inv in
     let e = next-is _ _ _ (c .before .before .before .before .next-entry .ensures) .ended (c .before .before .before .if1 .left) in
     let a = c .before .answered-by .ensures in
-    (pass-on _ _ _ _ (i .0) _ _ (e .0) _ (e .1) _ (a .0), a .1)
+    (pass-on _ _ _ _ (i .0) _ _ (e .0) _ (e .1) _ (a .0), a .1 .1)
 
 pub pass-chunk-spec : {M : Type 1} → statement M
 pass-chunk-spec =
