@@ -9,36 +9,48 @@ tell() { # PROGRAM
     LC_ALL=C awk -f "$a/tables.awk" -f "$a/log.awk" -f "$a/wrong.awk" -f "$a/$1.awk"
 }
 
-# Sets octal to a page's bytes, three digits each behind a blank; - is standard input. The file is read once, so that what is judged, explained and
-# replayed are the same bytes; a file of more than 4096 is no page, however it goes on.
-read_page() { # FILE
-    if [ "$1" = - ]; then
+# Sets octal to the bytes of a page or a sheet, three digits each behind a blank; - is standard input. The file is read once, so that what is judged,
+# explained and replayed are the same bytes; a file of more than 4096 is no page and no sheet, however it goes on.
+read_octal() { # WHAT FILE
+    if [ "$2" = - ]; then
         octal=$({ od -An -v -to1 -N 4097 || echo failed; } 2>/dev/null | tr -d '\n')
     else
-        if [ ! -e "$1" ]; then say "$1: no such file"; return 1; fi
-        if [ -d "$1" ]; then say "$1: a folder, not a page"; return 1; fi
-        octal=$({ od -An -v -to1 -N 4097 <"$1" || echo failed; } 2>/dev/null | tr -d '\n')
+        if [ ! -e "$2" ]; then say "$2: no such file"; return 1; fi
+        if [ -d "$2" ]; then say "$2: a folder, not a $1"; return 1; fi
+        octal=$({ od -An -v -to1 -N 4097 <"$2" || echo failed; } 2>/dev/null | tr -d '\n')
     fi
     case $octal in
-    *failed) say "$1: could not be read; look at its permissions"; return 1 ;;
+    *failed) say "$2: could not be read; look at its permissions"; return 1 ;;
     esac
 }
 
-# The page's first COUNT bytes.
+read_page() { read_octal page "$1"; } # FILE
+read_sheet() { read_octal sheet "$1"; } # FILE
+
+# The first COUNT bytes of what was read.
 page_bytes() { # COUNT
     printf '%b' "$(printf '%s\n' "$octal" | cut -c "1-$((4 * $1))" | sed 's/ /\\0/g')"
+}
+
+# Sets number and word to those of a line `page`, number, word, which a program writes for a refused page; both are empty where it wrote another.
+refused_page() { # STATUS ANSWER
+    number='' word=''
+    case $1$2 in '3page	'*)
+        number=${2#*	}
+        word=${number#*	} number=${number%	*}
+        return 0
+        ;;
+    esac
+    return 1
 }
 
 # Sets number and word to the proved judge's refusal of the page that was read; both are empty where it is accepted. A program that reads a page and
 # a log writes the line of a refused page first, whatever the log is.
 judge_page() {
-    number='' word=''
     answer=$(page_bytes 4097 | run replay /dev/stdin /dev/null)
-    case $?$answer in
-    '3page	'*)
-        number=${answer#*	}
-        word=${number#*	} number=${number%	*}
-        ;;
+    status=$?
+    refused_page "$status" "$answer" && return 0
+    case $status$answer in
     '0tick	'*) ;;
     1*) return 1 ;;
     *)

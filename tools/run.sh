@@ -3,7 +3,7 @@
 #   build NAME..             proves and builds programs where that is not done
 #   run NAME WORDS..         runs a program that is built: 0 done, 1 it could not be done, and the message is out, 3 it refused
 #   put TEXT                 writes a text that is known whole, and says so where that fails
-# Every word of the command ends with 0 done, 1 could not be done, 2 called wrongly, 3 the page is refused.
+# Every word of the command ends with 0 done, 1 could not be done, 2 called wrongly, 3 the page or the sheet is refused.
 
 # ---- what was started ends with us
 

@@ -70,12 +70,17 @@ called 'a page that is not there' 1 '' "$made/none: no such file" judge "$made/n
 called 'a folder as the page' 1 '' 'a folder, not a page' judge tests
 called 'judge without a page' 2 '' 'usage: ./keeper judge PAGE' judge
 called 'judge with two pages' 2 '' 'usage: ./keeper judge PAGE' judge a b
-called 'explain 0' 2 '' 'numbered 1 to 17' explain 0
-called 'explain 18' 2 '' 'numbered 1 to 17' explain 18
-called 'explain 07' 2 '' 'numbered 1 to 17' explain 07
-called 'explain of no number' 2 '' 'numbered 1 to 17' explain 'x	y'
+called 'explain 0' 2 '' 'numbered 1 to 17, 19 and 23, and' explain 0
+called 'explain 18' 2 '' 'numbered 1 to 17, 19 and 23, and' explain 18
+called 'explain 07' 2 '' 'numbered 1 to 17, 19 and 23, and' explain 07
+called 'explain of no number' 2 '' 'numbered 1 to 17, 19 and 23, and' explain 'x	y'
 called 'explain with a word past the page' 2 '' 'words 0 to 79' explain 7 80
 called 'explain with too many words' 2 '' 'usage: ./keeper explain' explain 7 16 1
+called 'explain 24' 2 '' 'numbered 1 to 17, 19 and 23, and' explain 24
+says 'explain 19' "19	sheet	a line of the sheet is bad: its number, name, form or value's size is wrong, or it is missing or extra
+mend	./keeper unsheet SHEET says what is wrong with the first bad line" "$(./keeper explain 19)"
+says 'explain 23' "text buffer" "$(./keeper explain 23 | sed 1q | cut -f 2)"
+says 'explain says that a refusal of a sheet names no word' 'note	refusal 19 is of a sheet and names no word of the page' "$(./keeper explain 19 16 | grep '^note')"
 says 'explain 7 16' "7	page	a protection word is out of range
 words	16..55	of a page of 128 bytes
 words	16..65	of a page of 160 bytes

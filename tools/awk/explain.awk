@@ -51,16 +51,28 @@ function about_word(n, w,    l, first, text, named, p) {
     else if (!named) print "note\trefusal " n " never names word " w (n < 5 ? "; it names word 0" : "")
 }
 
+# The numbers that there are, in words: 1 to 17, 19 and 23.
+function numbers(    n, from, text, part, parts) {
+    for (n = 1; n <= last_refusal + 1; n++) {
+        if (n in refuses && !from) from = n
+        if (n in refuses || !from) continue
+        part[++parts] = from == n - 1 ? from : from " to " n - 1
+        from = 0
+    }
+    for (n = 1; n <= parts; n++) text = text (n == 1 ? "" : n == parts ? " and " : ", ") part[n]
+    return text
+}
+
 function shown(text) { gsub(/[^ -~]/, "?", text); return substr(text, 1, 40) }
 
 BEGIN {
     load()
     n = ENVIRON["KEEPER_NUMBER"]; w = ENVIRON["KEEPER_WORD"]
     if (n == "all") {
-        for (n = 1; n <= refusals; n++) print n "\t" refuses[n] "\t" filled(meaning[n])
+        for (n = 1; n <= last_refusal; n++) if (n in refuses) print n "\t" refuses[n] "\t" filled(meaning[n])
         exit 0
     }
-    if (n !~ /^[1-9][0-9]*$/ || !((n + 0) in refuses) || length(n) > 4) wrong("the refusals are numbered 1 to " refusals ", and '" shown(n) "' is none of them")
+    if (n !~ /^[1-9][0-9]*$/ || !((n + 0) in refuses) || length(n) > 4) wrong("the refusals are numbered " numbers() ", and '" shown(n) "' is none of them")
     n += 0
     print n "\t" refuses[n] "\t" filled(meaning[n])
     if (refuses[n] == "page") {

@@ -36,6 +36,7 @@ function load(    file, line, f, got) {
             line_most = f[2]; cells_most = f[3]
         } else if (f[1] == "refusal") {
             refusals++
+            if (f[2] + 0 > last_refusal + 0) last_refusal = f[2]
             refuses[f[2]] = f[3]; meaning[f[2]] = f[4]; mend[f[2]] = f[5]
         }
     }
