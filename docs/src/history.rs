@@ -6,8 +6,8 @@
 //! compared with the pack keeper. It keeps every accepted sample since the load, and what was
 //! decided at each, and answers every question by looking back over them. It has no run counters.
 //!
-//! This file has the rules: check byte, protections, page, sample, history, bleeding, words, log,
-//! and at its end the command line. A sentence in quotes is document 01's, or document 02's where
+//! This file has the rules: check byte, protections, page, sheet, sample, history, bleeding, words,
+//! log, and at its end the command line. A sentence in quotes is document 01's, or document 02's where
 //! that is said. What makes pages and logs to compare with, and the self test, stand in history/.
 
 #[path = "history/cases.rs"]
@@ -22,6 +22,8 @@ mod pages;
 mod rounds;
 #[path = "history/selftest.rs"]
 mod selftest;
+#[path = "history/sheets.rs"]
+mod sheets;
 
 use std::env;
 use std::fs;
@@ -313,6 +315,114 @@ impl Page {
     fn mask(&self, p: usize) -> u16 {
         self.words[first_word(p) + 4]
     }
+}
+
+// ---- The sheet ----------------------------------------------------------------------------
+
+/// "Names are a fixed list kept in docs/" (document 02, request 04): 64 for the page of 128 bytes,
+/// then 80 for the one of 160.
+struct Names(Vec<String>);
+
+impl Names {
+    fn of(&self, layout: &Layout, word: usize) -> &str {
+        let before = if layout.bytes == 128 { 0 } else { 64 };
+        &self.0[before + word]
+    }
+}
+
+/// "each ended by a newline, of number, name and value parted by tabs: words 0 to 62 in order, then
+/// the check byte as 63", or "the check byte as 79".
+fn sheet_of(page: &[u8], layout: &Layout, names: &Names) -> Vec<u8> {
+    let values = words_of(page);
+    let mut text = vec![];
+    for word in 0..=layout.last {
+        let value =
+            if word < layout.last { values[word] } else { u16::from(page[layout.bytes - 1]) };
+        let line = format!("{}\t{}\t{}\n", word, names.of(layout, word), value);
+        text.extend(line.into_bytes());
+    }
+    text
+}
+
+/// The writer: the page's refusals, or its sheet.
+fn write_sheet(page: &[u8], names: &Names) -> Result<Vec<u8>, Refusal> {
+    let judged = judge(page)?;
+    Ok(sheet_of(page, judged.layout, names))
+}
+
+/// The value of a good line. "A line is bad if its number, name, form or value's size (16 bits; 8
+/// for the check byte) is wrong". "Values are unsigned decimal without leading zeros."
+fn value_in(line: &[u8], word: usize, layout: &Layout, names: &Names) -> Option<u16> {
+    let fields: Vec<&[u8]> = line.strip_suffix(b"\n")?.split(|&byte| byte == b'\t').collect();
+    let most = if word == layout.last { 255 } else { 65535 };
+    match fields[..] {
+        [place, name, value]
+            if place == word.to_string().as_bytes()
+                && name == names.of(layout, word).as_bytes() =>
+        {
+            number(value, most).map(|value| value as u16)
+        }
+        _ => None,
+    }
+}
+
+/// "A sheet whose first line holds the new mark has 80 lines" (document 02, request 07).
+fn layout_of_sheet(lines: &[&[u8]], names: &Names) -> &'static Layout {
+    let long = &LAYOUTS[1];
+    match lines.first().and_then(|line| value_in(line, 0, long, names)) {
+        Some(mark) if mark == long.mark => long,
+        _ => &LAYOUTS[0],
+    }
+}
+
+/// The values of a sheet, or "19 and the first bad line's number, from 1". A line is also bad if
+/// "it is missing or extra".
+fn values_of(text: &[u8], names: &Names) -> Result<(&'static Layout, Vec<u16>), Refusal> {
+    let lines: Vec<&[u8]> = text.split_inclusive(|&byte| byte == b'\n').collect();
+    let layout = layout_of_sheet(&lines, names);
+    let bad = |line: usize| Refusal { number: 19, word: line };
+    let mut values = vec![];
+    for word in 0..=layout.last {
+        let line: &[u8] = lines.get(word).copied().unwrap_or(b"");
+        values.push(value_in(line, word, layout, names).ok_or_else(|| bad(word + 1))?);
+    }
+    if lines.len() > layout.last + 1 {
+        return Err(bad(layout.last + 2));
+    }
+    Ok((layout, values))
+}
+
+/// The page that the values say. Its last word is a zero byte, which no line has, and the check byte.
+fn page_said(layout: &Layout, values: &[u16]) -> Vec<u8> {
+    let mut words = values.to_vec();
+    words[layout.last] *= 256;
+    words.iter().flat_map(|word| word.to_le_bytes()).collect()
+}
+
+/// The reader into a buffer of this size: "If no line is bad, a page buffer of another size gives 1,
+/// else the page's own refusal is given, if any."
+fn read_sheet(text: &[u8], size: usize, names: &Names) -> Result<Vec<u8>, Refusal> {
+    let (layout, values) = values_of(text, names)?;
+    if size != layout.bytes {
+        return Err(Refusal { number: 1, word: 0 });
+    }
+    let page = page_said(layout, &values);
+    judge(&page).map(|_| page)
+}
+
+/// The program `unsheet`, whose buffer has the size that the sheet asks for.
+fn unsheet(text: &[u8], names: &Names) -> Result<Vec<u8>, Refusal> {
+    let (layout, _) = values_of(text, names)?;
+    read_sheet(text, layout.bytes, names)
+}
+
+/// The program `seal`: the sheet with the check byte of the page's other bytes, not judged.
+fn seal_sheet(text: &[u8], names: &Names) -> Result<Vec<u8>, Refusal> {
+    let (layout, values) = values_of(text, names)?;
+    let mut page = page_said(layout, &values);
+    let last = layout.bytes - 1;
+    page[last] = check_byte(&page[..last]);
+    Ok(sheet_of(&page, layout, names))
 }
 
 // ---- Samples ------------------------------------------------------------------------------
@@ -764,6 +874,11 @@ const USAGE: &str = "usage: history replay PAGE LOG        the replay program
        history big SEED LINES N       a long log for a pack of N cells
        history bigpage N              a page that fits it
        history mkpage                 a page from lines of `word value`
+       history sheet NAMES PAGE       the page as a sheet; NAMES is docs/sheet-names.txt
+       history unsheet NAMES SHEET    the page that a sheet says
+       history seal NAMES SHEET       the sheet with the right check byte
+       history sheets NAMES SEED PAGES SHEETS DIR
+                                      pages and sheets, some damaged, and what comes of them
        history selftest               the documents' samples";
 
 fn file_error(name: &str, error: io::Error) -> String {
@@ -776,6 +891,28 @@ fn stdout_error(error: io::Error) -> String {
 
 fn read_file(name: &str) -> Result<Vec<u8>, String> {
     fs::read(name).map_err(|error| file_error(name, error))
+}
+
+/// The list of names, a line each.
+fn read_names(name: &str) -> Result<Names, String> {
+    let text = String::from_utf8_lossy(&read_file(name)?).into_owned();
+    let names: Vec<String> = text.lines().map(str::to_string).collect();
+    if names.len() != 144 {
+        return Err(format!("{}: {} names, not 144", name, names.len()));
+    }
+    Ok(Names(names))
+}
+
+/// What came of a file, or its refusal as a message.
+fn write_or_refuse(
+    name: &str,
+    answer: Result<Vec<u8>, Refusal>,
+    out: &mut dyn Write,
+) -> Result<(), String> {
+    match answer {
+        Ok(bytes) => out.write_all(&bytes).map_err(stdout_error),
+        Err(refusal) => Err(format!("{}: refused {} {}", name, refusal.number, refusal.word)),
+    }
 }
 
 /// A number of the command line; a bad one gets the usage.
@@ -836,6 +973,25 @@ fn run(arguments: &[&str], out: &mut dyn Write) -> Result<(), String> {
             read.map_err(|error| file_error("standard input", error))?;
             out.write_all(&pages::page_from_list(&list)?).map_err(stdout_error)
         }
+        ["sheet", names, page] => {
+            let answer = write_sheet(&read_file(page)?, &read_names(names)?);
+            write_or_refuse(page, answer, out)
+        }
+        ["unsheet", names, sheet] => {
+            let answer = unsheet(&read_file(sheet)?, &read_names(names)?);
+            write_or_refuse(sheet, answer, out)
+        }
+        ["seal", names, sheet] => {
+            let answer = seal_sheet(&read_file(sheet)?, &read_names(names)?);
+            write_or_refuse(sheet, answer, out)
+        }
+        ["sheets", names, seed, pages, sheets, directory] => sheets::write_sheets(
+            &read_names(names)?,
+            argument(seed),
+            argument(pages),
+            argument(sheets),
+            directory,
+        ),
         ["selftest"] if selftest::selftest() => Ok(()),
         ["selftest"] => Err("the self test failed".to_string()),
         _ => usage(),

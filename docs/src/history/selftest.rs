@@ -4,6 +4,7 @@ use super::cases::case;
 use super::dice::Dice;
 use super::pages::*;
 use super::rounds::{check_the_rounds, three_cells};
+use super::sheets::check_the_sheets;
 use super::*;
 use std::collections::BTreeSet;
 
@@ -477,6 +478,7 @@ pub(crate) fn selftest() -> bool {
     check_the_cold(&mut checks);
     check_the_pages(&mut checks);
     check_the_long_pages(&mut checks);
+    check_the_sheets(&mut checks);
     check_the_replay(&mut checks);
     check_the_lines(&mut checks);
     check_the_tick(&mut checks);
