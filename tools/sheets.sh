@@ -21,11 +21,11 @@ write_page() {
 
 # Puts the sealed sheet in the place of the one that was read, as the text `sealed` without its last newline and in octal.
 seal_sheet() {
-    if sealed=$(page_bytes 4097 | run seal /dev/stdin 2>&1); then
-        octal=$(printf '%s\n' "$sealed" | od -An -v -to1 | tr -d '\n')
-        return 0
-    fi
-    refused_sheet $? "$sealed"
+    sealed=$(page_bytes 4097 | run seal /dev/stdin 2>&1) || {
+        refused_sheet $? "$sealed"
+        return
+    }
+    octal=$(printf '%s\n' "$sealed" | od -An -v -to1 | tr -d '\n')
 }
 
 # Says why the sheet was refused, in a sentence. The cause is looked for only now, and of the page's own refusals it is the judge's sentence.

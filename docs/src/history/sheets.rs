@@ -251,7 +251,7 @@ pub(crate) fn write_sheets(
         expect(&mut read, &name, unsheet(&text, names));
         expect(&mut sealed, &name, seal_sheet(&text, names));
         if let Ok(text) = seal_sheet(&text, names) {
-            expect(&mut both, &name, unsheet(&text, names));
+            expect(&mut both, "/dev/stdin", unsheet(&text, names));
         }
     }
     save("unsheet.want", &read)?;
