@@ -879,6 +879,8 @@ const USAGE: &str = "usage: history replay PAGE LOG        the replay program
        history seal NAMES SHEET       the sheet with the right check byte
        history sheets NAMES SEED PAGES SHEETS DIR
                                       pages and sheets, some damaged, and what comes of them
+       history sheetcalls NAMES SEED COUNT
+                                      pages and sheets in hex, with what C is answered
        history selftest               the documents' samples";
 
 fn file_error(name: &str, error: io::Error) -> String {
@@ -992,6 +994,9 @@ fn run(arguments: &[&str], out: &mut dyn Write) -> Result<(), String> {
             argument(sheets),
             directory,
         ),
+        ["sheetcalls", names, seed, count] => {
+            sheets::write_calls(&read_names(names)?, argument(seed), argument(count), out)
+        }
         ["selftest"] if selftest::selftest() => Ok(()),
         ["selftest"] => Err("the self test failed".to_string()),
         _ => usage(),

@@ -132,9 +132,11 @@ for by in judge replay bus; do
     [ "$by" != bus ] || table=words
     says "the refusals that $table gives are those of REFERENCE.md" "$(awk -F '\t' -v by="$table" '$5 == by { print $1 }' "$made/table.No")" "$(sort -nu "$made/$by.numbers")"
 done
-says 'one refusal is left to calls from code' 14 "$(awk -F '\t' '$5 == "a call from code only" { print $1 }' "$made/table.No")"
+for line in 4d 64p; do sed "$line" tests/examples/tour.sheet >"$made/bad.sheet"; ./keeper unsheet "$made/bad.sheet" 2>&1 | sed 's/.*refused \([0-9]*\),.*/\1/'; done >"$made/sheet.numbers"
+says 'the refusal that unsheet gives is that of REFERENCE.md' "$(awk -F '\t' '$5 == "unsheet, seal" { print $1 }' "$made/table.No")" "$(sort -nu "$made/sheet.numbers")"
+says 'two refusals are left to calls from code' '14 23 ' "$(awk -F '\t' '$5 == "a call from code only" { printf "%s ", $1 }' "$made/table.No")"
 
 # ---- the calls from C
 sed -n 's/^`\(.*\)`	.*/\1;/p' "$made/table.Call" | sort >"$made/calls.want"
-grep '^uint32_t keeper_' tests/rig/keeper.h | sort >"$made/calls.got"
+grep '^uint[0-9]*_t keeper_' tests/rig/keeper.h | sort >"$made/calls.got"
 same 'the calls from C are those of keeper.h' "$made/calls.got" "$made/calls.want"

@@ -1,6 +1,7 @@
 /* The pack keeper for the bench rig's host program. Link the archive that `./keeper staticlib` makes (x86-64).
- * Each function answers for every input, reads only the bytes that it is handed, changes none and keeps nothing.
- * A null pointer is fine where the length is 0. */
+ * Each function answers for every input, reads and changes only the bytes that it is handed, and keeps nothing. What it
+ * takes as const it does not change; the two buffers of one call must not overlap. A null pointer is fine where the length
+ * is 0. */
 #ifndef KEEPER_H
 #define KEEPER_H
 
@@ -24,11 +25,28 @@ uint32_t keeper_check_byte(const uint8_t *bytes, size_t length);
  * name word 0; 5 to 8 name the lowest word at fault, for 8 the trip word. */
 uint32_t keeper_judge_page(const uint8_t *page, size_t length);
 
-/* The two parts of the judge's number: the refusal, 0 if the page is accepted, and the word at fault. */
+/* The two parts of the judge's number, and of the reader's: the refusal, 0 if the page is accepted, and the word at fault, or
+ * the line. */
 #define KEEPER_REFUSAL(answer) ((uint32_t)(answer) / 256u)
 #define KEEPER_WORD(answer) ((uint32_t)(answer) % 256u)
 
-/* The refusals of a page. */
+/* Writes a page as a sheet, a line for each word: number, name and value, parted by tabs. The answer is the sheet's length,
+ * and it stands at the front of the text; bytes of the text past it stay as they were. Or it is a refusal's number times
+ * 65536 plus the word at fault, and the whole text stays as it was: first the page's refusals, then 23 where the room is
+ * less than the sheet. No sheet has more bytes than KEEPER_SHEET_ROOM. */
+uint64_t keeper_write_sheet(const uint8_t *page, size_t length, uint8_t *text, size_t room);
+#define KEEPER_SHEET_ROOM 2123u
+
+/* The two parts of its number: the refusal, 0 if the sheet was written, and then the length, else the word at fault. */
+#define KEEPER_SHEET_REFUSAL(answer) ((uint32_t)((uint64_t)(answer) / 65536u))
+#define KEEPER_SHEET_LENGTH(answer) ((uint32_t)((uint64_t)(answer) % 65536u))
+
+/* Reads a sheet into a page: 0 if it is accepted, and then the page holds its bytes, else the refusal's number times 256 plus
+ * the line or the word, and the page stays as it was. 19 names the first bad line, counted from 1; where no line is bad, a
+ * page of another size than the sheet's (128 or 160) is 1; then the page's own refusals. */
+uint32_t keeper_read_sheet(const uint8_t *text, size_t length, uint8_t *page, size_t size);
+
+/* The refusals of a page and of a sheet. */
 enum {
     KEEPER_ACCEPTED = 0,
     KEEPER_WRONG_LENGTH = 1,      /* neither 128 nor 160 bytes */
@@ -38,7 +56,9 @@ enum {
     KEEPER_RESERVED_NOT_0 = 5,    /* a reserved word, or byte 126 as word 63 (of 160 bytes byte 158 as word 79) */
     KEEPER_SETTING_RANGE = 6,     /* one of words 1 to 8 is out of range */
     KEEPER_PROTECTION_RANGE = 7,  /* a word of a protection is out of range */
-    KEEPER_LEVELS_ORDER = 8       /* trip and release are not in their order */
+    KEEPER_LEVELS_ORDER = 8,      /* trip and release are not in their order */
+    KEEPER_SHEET_LINE = 19,       /* a line of a sheet is bad, missing or extra */
+    KEEPER_TEXT_ROOM = 23         /* the text is too short for the sheet */
 };
 
 #ifdef __cplusplus

@@ -1,6 +1,7 @@
 /* The bench rig's test: calls the proved functions from C and compares with what others worked out.
- * rig VECTORS PAGES: files of lines 'answer bytes', the bytes in hexadecimal, '-' for none. In VECTORS the answer is a check byte
- * in hexadecimal, in PAGES what the judge answers, in decimal. */
+ * rig VECTORS PAGES SHEETS: files of lines 'answer bytes', the bytes in hexadecimal, '-' for none. In VECTORS the answer is a check
+ * byte in hexadecimal, in PAGES what the judge answers, in decimal. A line of SHEETS is 'w answer length page text' or 'r answer size
+ * text page': what the writer and the reader answer, and what they leave in a buffer, or '-'. */
 #include "keeper.h"
 
 #include <stdio.h>
@@ -160,11 +161,104 @@ static void compare(const char *name, const char *line, uint32_t (*function)(con
     ends(name);
 }
 
+/* A buffer that is lent, between bytes that must stay. All of it has a pattern before the call. */
+#define GUARD 64
+static uint8_t space[GUARD + LONGEST + 2 * GUARD];
+
+static uint8_t pattern(size_t i)
+{
+    return (uint8_t)(i * 151 + 89);
+}
+
+static uint8_t *lent(void)
+{
+    for (size_t i = 0; i < sizeof space; i++)
+        space[i] = pattern(i);
+    return space + GUARD;
+}
+
+/* The buffer begins with these bytes, and everything before and behind them is as it was. */
+static void holds(const char *what, const uint8_t *bytes, size_t n)
+{
+    expect(what, memcmp(space + GUARD, bytes, n) == 0, 1);
+    size_t changed = 0;
+    for (size_t i = 0; i < sizeof space; i++)
+        if ((i < GUARD || i >= GUARD + n) && space[i] != pattern(i))
+            changed++;
+    expect("bytes changed beside what was written", (uint32_t)changed, 0);
+}
+
+/* The writer into a text of this room. */
+static void writes(const uint8_t *page, size_t length, size_t room, uint64_t wanted, const uint8_t *text, size_t n)
+{
+    uint64_t answer = keeper_write_sheet(page, length, lent(), room);
+    expect("the writer's refusal", KEEPER_SHEET_REFUSAL(answer), (uint32_t)(wanted / 65536));
+    expect("the writer's length or word", KEEPER_SHEET_LENGTH(answer), (uint32_t)(wanted % 65536));
+    holds("the sheet", text, n);
+}
+
+/* A page whose sheet has n bytes is written into texts that are exact, longer and too short; a refused one into none of them. */
+static void write_all(const uint8_t *page, size_t length, uint64_t answer, const uint8_t *text, size_t n)
+{
+    static const size_t more[] = { 0, 1, 2, 63 };
+    if (answer >= 65536) {
+        static const size_t rooms[] = { 0, 1, KEEPER_SHEET_ROOM, LONGEST };
+        for (size_t i = 0; i < 4; i++)
+            writes(page, length, rooms[i], answer, text, 0);
+        return;
+    }
+    expect("the length of the sheet", (uint32_t)answer, (uint32_t)n);
+    expect("KEEPER_SHEET_ROOM holds it", n <= KEEPER_SHEET_ROOM, 1);
+    for (size_t i = 0; i < 4; i++)
+        writes(page, length, n + more[i], answer, text, n);
+    const size_t less[] = { n - 1, n - 2, n / 2, 1, 0 };
+    for (size_t i = 0; i < 5; i++)
+        writes(page, length, less[i], (uint64_t)KEEPER_TEXT_ROOM * 65536, text, 0);
+    uint64_t none = keeper_write_sheet(page, length, NULL, 0);
+    expect("a null text of length 0", KEEPER_SHEET_REFUSAL(none), KEEPER_TEXT_ROOM);
+}
+
+/* The reader into a page of this size. */
+static void reads(const uint8_t *text, size_t n, size_t size, uint32_t wanted, const uint8_t *page)
+{
+    expect("the reader's answer", keeper_read_sheet(text, n, lent(), size), wanted);
+    holds("the page", page, wanted == KEEPER_ACCEPTED ? size : 0);
+}
+
+/* Compares the two calls for sheets with the lines of a file. */
+static void compare_sheets(const char *name)
+{
+    static char first[2 * LONGEST + 2], second[2 * LONGEST + 2];
+    static uint8_t in[LONGEST], out[LONGEST];
+    char kind;
+    unsigned long answer, size;
+    FILE *file = fopen(name, "r");
+    if (file == NULL) {
+        perror(name);
+    } else {
+        while (fscanf(file, " %c %lu %lu %8192s %8192s", &kind, &answer, &size, first, second) == 5) {
+            long n = bytes_of(first, in), m = bytes_of(second, out);
+            if (n < 0 || m < 0 || size > LONGEST)
+                expect("bytes in hexadecimal", 0, 1);
+            else if (kind == 'w')
+                write_all(in, (size_t)n, answer, out, (size_t)m);
+            else
+                reads(in, (size_t)n, size, (uint32_t)answer, out);
+        }
+        if (!feof(file))
+            expect("a line of sheets", 0, 1);
+        fclose(file);
+    }
+    expect("a null sheet of length 0", keeper_read_sheet(NULL, 0, lent(), 128), KEEPER_SHEET_LINE * 256 + 1);
+    holds("the page behind it", in, 0);
+    ends(name);
+}
+
 int main(int count, char **words)
 {
     static uint8_t page[128], long_page[160];
-    if (count != 3) {
-        fprintf(stderr, "usage: rig VECTORS PAGES\n");
+    if (count != 4) {
+        fprintf(stderr, "usage: rig VECTORS PAGES SHEETS\n");
         return 2;
     }
     published();
@@ -173,6 +267,7 @@ int main(int count, char **words)
     named(long_page, 160, 0xA5, 10);
     compare(words[1], "%2x %8192s", keeper_check_byte);
     compare(words[2], "%u %8192s", keeper_judge_page);
+    compare_sheets(words[3]);
     printf("%u passed, %u failed\n", passed, failed);
     return failed != 0;
 }

@@ -259,6 +259,42 @@ pub(crate) fn write_sheets(
     save("both.want", &both)
 }
 
+/// COUNT pages and COUNT sheets for C: `w`, what the writer answers, the page's length, the page and
+/// its sheet; `r`, what the reader answers, the size of its page buffer, the sheet and the page.
+pub(crate) fn write_calls(
+    names: &Names,
+    seed: u64,
+    count: u64,
+    out: &mut dyn Write,
+) -> Result<(), String> {
+    let mut dice = Dice(seed);
+    let shown = |bytes: &[u8]| if bytes.is_empty() { "-".to_string() } else { hex(bytes) };
+    for k in 0..count {
+        let page = match k % 3 {
+            0 => random_page(&mut dice).1,
+            _ => page_of(&accepted_words(some_layout(&mut dice), &mut dice)),
+        };
+        let (answer, sheet) = match write_sheet(&page, names) {
+            Ok(sheet) => (sheet.len() as u64, sheet),
+            Err(refusal) => (u64::from(refusal.number) * 65536 + refusal.word as u64, vec![]),
+        };
+        let page_shown = shown(&page);
+        writeln!(out, "w {} {} {} {}", answer, page.len(), page_shown, shown(&sheet))
+            .map_err(stdout_error)?;
+        let mut text = sheet_that_comes_in(&mut dice, names);
+        text.truncate(4096);
+        for size in [0, 127, 128, 129, 159, 160, 161] {
+            let (answer, page) = match read_sheet(&text, size, names) {
+                Ok(page) => (0, page),
+                Err(refusal) => (refused_as(u32::from(refusal.number), refusal.word), vec![]),
+            };
+            writeln!(out, "r {} {} {} {}", answer, size, shown(&text), shown(&page))
+                .map_err(stdout_error)?;
+        }
+    }
+    Ok(())
+}
+
 /// Names for the self test, which part at word 56 as those of docs/ do.
 fn test_names() -> Names {
     let word = |row: usize| if row < 64 { row } else { row - 64 };
