@@ -17,6 +17,12 @@ done
 try bare "$copy/keeper" words "$made/short.page" "$log"
 holds '12 and a refused page there' 'ended 3 && wrote "$made/refused"'
 mv "$copy" "$made/copy" && copy=$made/copy
+try bare sh -c '"$0" sheet "$1" | "$0" seal - | "$0" unsheet -' "$copy/keeper" "$page"
+holds '12 a page as a sheet and back there' 'ended 0 && wrote "$page" && [ ! -s "$made/err" ]'
+try bare "$copy/keeper" sheet --names "$copy/tests/examples/tour.page"
+holds '12 and what its values mean' 'ended 0 && [ "$(sed -n 17p "$made/out" | cut -f 4)" = "4250 mV" ]'
+try bare "$copy/keeper" unsheet "$page"
+holds '12 and what is wrong with a sheet' 'ended 3 && said_one_line && said "refused 19, line 1: " && wrote_nothing'
 try bare "$copy/keeper" --help
 holds '12 its help has only what it can do' 'ended 0 && ! grep -q "keeper mistake\|keeper test\|keeper install\|keeper build" "$made/out" && grep -q "keeper staticlib" "$made/out"'
 try bare "$copy/keeper" staticlib

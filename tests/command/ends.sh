@@ -68,15 +68,17 @@ try sh -c 'cd "$0" && "$1" replay -p "$2"' "$made/names" "$tree/keeper" "$log"
 kill "$fed" 2>/dev/null
 wait "$fed" 2>/dev/null
 holds '13 a page from a pipe named -p' 'ended 0 && wrote "$want"'
-for word in judge 'replay --explain' replay checkbyte; do
+for word in judge 'replay --explain' replay checkbyte sheet 'sheet --names' seal unsheet 'unsheet --seal'; do
     # shellcheck disable=SC2086
-    try "$tree/keeper" $word "$made/names/none${escape}" "$log"
-    [ "$word" != judge ] && [ "$word" != checkbyte ] || try "$tree/keeper" $word "$made/names/none${escape}"
+    case $word in
+    replay*) try "$tree/keeper" $word "$made/names/none${escape}" "$log" ;;
+    *) try "$tree/keeper" $word "$made/names/none${escape}" ;;
+    esac
     holds "13 no name moves the cursor: $word" 'ended 1 && said_one_line && ! grep -q "$(printf "\033")" "$made/err"'
 done
 
 # ---- help behind every word, options that are none, words turned round
-for word in judge explain replay words plot checkbyte staticlib mistake build install test; do
+for word in judge explain replay words sheet seal unsheet plot checkbyte staticlib mistake build install test; do
     try "$tree/keeper" "$word" --help
     holds "13 $word --help" 'ended 0 && grep -q "^usage: ./keeper $word" "$made/out" && grep -q "^for example: ./keeper $word" "$made/out" && [ ! -s "$made/err" ] && rt_not_called'
 done

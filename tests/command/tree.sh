@@ -12,12 +12,12 @@ new_tree() {
     cp "$from/.ci/run" "$tree/.ci/"
     cp "$from/tests/gate" "$tree/tests/"
     [ ! -f "$from/tests/part" ] || cp "$from/tests/part" "$tree/tests/"
-    cp "$here"/tests/examples/*.page "$here"/tests/examples/*.log "$here"/tests/examples/*.out "$tree/tests/examples/"
+    cp "$here"/tests/examples/*.page "$here"/tests/examples/*.log "$here"/tests/examples/*.out "$here"/tests/examples/*.sheet "$tree/tests/examples/"
     echo 'fn main() {}' >"$tree/docs/src/history.rs"
     echo 'a:' >"$tree/crates.txt"
     echo 'fn one() -> u8 { 1 }' >"$tree/crates/a/src/lib.rt"
     printf '# two for one\nfile: src/lib.rt\nold: { 1 }\nnew: { 2 }\n' >"$tree/crates/a/must-fail/two.edit"
-    for program in replay words checkbyte; do
+    for program in replay words checkbyte sheet unsheet seal; do
         mkdir -p "$tree/crates/$program/src"
         echo 'fn main() {}' >"$tree/crates/$program/src/main.rt"
         echo "$program: a" >>"$tree/crates.txt"
