@@ -63,7 +63,7 @@ bad_line "line 32: the value is '-9000': values have no sign, and one below zero
 bad_line "line 17: the value is '4250 ', with blanks" '17s/[0-9]*$/4250 /'
 bad_line "line 17: the value is '4.25', which is no decimal number" '17s/[0-9]*$/4.25/'
 bad_line 'line 17: the value is empty' '17s/[0-9]*$//'
-bad_line 'line 17: behind the name no tab and no value stands' "17s/$t[0-9]*\$//"
+bad_line 'line 17: behind the name no tab and no value stands' "17s/${t}[0-9]*\$//"
 bad_line 'line 17: it has 4 fields, a line has three: number, name, value' "17s/\$/${t}mV/"
 bad_line "line 17: the name is 'over voltage', and that of 16 is 'over voltage trip'" '17s/ trip//'
 bad_line "line 17: the number is '17', and here 16 belongs" 17d
