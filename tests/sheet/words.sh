@@ -31,7 +31,7 @@ for one in tour winter; do
     same "sheet --names has the sheet of $one in its first three fields" "$made/plain" "tests/examples/$one.sheet"
     if awk -F '\t' 'NF != 4 || $4 == "" { exit 1 }' "$made/meant"; then ok "and something in a fourth"; else bad "sheet --names of $one has lines without a meaning"; fi
     try unsheet "$made/meant"
-    gives "and is for reading only" 3 '' 'refused 19, line 1: it has 4 fields, a line has three: number, name, value'
+    gives "and is for reading only" 3 '' 'refused 19, line 1: it has 4 fields, a line has three: number, name, value; what sheet --names writes is for reading only'
 done
 { ./keeper sheet "$tour.page"; ./keeper sheet "$winter.page"; } | cut -f 2 >"$made/names"
 same 'the names that the program writes are those of docs/sheet-names.txt' "$made/names" docs/sheet-names.txt
@@ -59,13 +59,15 @@ bad_line "line 17: the value '65536' is over 65535" '17s/[0-9]*$/65536/'
 bad_line "line 64: the value '256' is over 255" '64s/[0-9]*$/256/'
 bad_line "line 17: the value is '04250': a value has no leading zeros" '17s/[0-9]*$/04250/'
 bad_line "line 17: the value is '+4250': a value has no plus sign" '17s/[0-9]*$/+4250/'
-bad_line "line 32: the value is '-9000': values have no sign, and one below zero stands as itself plus 65536" '32s/[0-9]*$/-9000/'
+bad_line "line 32: the value is '-9000': values have no sign, and -9000 stands as 56536" '32s/[0-9]*$/-9000/'
+bad_line "line 32: the value is '-32769': values have no sign" '32s/[0-9]*$/-32769/'
 bad_line "line 17: the value is '4250 ', with blanks" '17s/[0-9]*$/4250 /'
 bad_line "line 17: the value is '4.25', which is no decimal number" '17s/[0-9]*$/4.25/'
 bad_line 'line 17: the value is empty' '17s/[0-9]*$//'
 bad_line 'line 17: behind the name no tab and no value stands' "17s/${t}[0-9]*\$//"
 bad_line 'line 17: it has 4 fields, a line has three: number, name, value' "17s/\$/${t}mV/"
 bad_line "line 17: the name is 'over voltage', and that of 16 is 'over voltage trip'" '17s/ trip//'
+bad_line "line 33: the name is 'over discharge current trip', and that of 32 is 'over discharge current release'" '33s/release/trip/'
 bad_line "line 17: the number is '17', and here 16 belongs" 17d
 bad_line "line 18: the number is '16', and here 17 belongs" 17p
 bad_line 'line 17: the line is empty' '17s/.*//'
@@ -100,6 +102,11 @@ try seal "$made/my.sheet"
 gives 'seal says the same' 3 '' "$made/my.sheet: refused 19, line 6: the number is '77777777777777777777..', and here 5 belongs"
 try unsheet --seal "$made/my.sheet"
 gives 'and so does unsheet --seal' 3 '' "$made/my.sheet: refused 19, line 6: the number is '77777777777777777777..', and here 5 belongs"
+
+try unsheet "$winter.page"
+gives 'a page for a sheet' 3 '' "$winter.page: refused 19, line 1: these are the bytes of a page and no sheet: ./keeper sheet writes one"
+try judge "$winter.sheet"
+if [ "$status" -eq 3 ] && grep -q '(this is a sheet: ./keeper unsheet makes a page of it)$' "$made/got"; then ok 'a sheet for a page'; else bad "judge of a sheet: '$(cat "$made/got")'"; fi
 
 # ---- a sheet of a page that is refused: the judge's own sentence
 sentence() { # NUMBER WORD LINE SHEET COMMAND

@@ -23,9 +23,17 @@ function wrong_order(w,    p, trip, release) {
         (trips[p] == "at or above" ? "below" : "above") " trip"
 }
 
+# Whether the bytes begin as every sheet does.
+function is_sheet(    i, text) {
+    text = "0\t" name_of(1, 0) "\t"
+    for (i = 1; i <= length(text); i++) if (sprintf("%c", byte[i - 1]) != substr(text, i, 1)) return 0
+    return 1
+}
+
 function wrong_length(    i, text) {
     if (bytes == 0) return "the page is empty, allowed " each_page("bytes") " bytes"
     text = "the page has " (bytes > 4096 ? "more than 4096" : bytes) (bytes == 1 ? " byte" : " bytes") ", allowed " each_page("bytes")
+    if (is_sheet()) return text " (this is a sheet: ./keeper unsheet makes a page of it)"
     for (i = 0; i < bytes; i++) if (byte[i] > 126 || byte[i] < 32 && byte[i] != 9 && byte[i] != 10 && byte[i] != 13) return text
     return text " (all of it is text; a page is raw bytes)"
 }
