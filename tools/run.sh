@@ -7,7 +7,7 @@
 
 # ---- what was started ends with us
 
-groups='' watched='' paused=''
+groups='' watched='' paused='' awaited=''
 
 # A script that makes something for a while says here how it is removed.
 clean_up() { :; }
@@ -30,6 +30,8 @@ leave_signals() {
 # A signal ends what was started, cleans up, and then ends this shell in its own way.
 stop() { # SIGNAL
     trap '' INT TERM HUP
+    # What was started a moment ago may not be in the list yet.
+    case " $groups $awaited " in *" ${!:-} "*) ;; *) groups="$groups ${!:-}" ;; esac
     end_groups
     clean_up
     trap - "$1" EXIT
@@ -79,6 +81,7 @@ await() { # GROUP
         ended=$?
         [ -n "$paused" ] || break
     done
+    awaited=$1
     groups=$(printf '%s' " $groups " | sed "s/ $1 / /")
     return "$ended"
 }
