@@ -3,5 +3,8 @@
 // `chooser` is the walk over the cells from the start cell on: who is taken.
 // Definitions stand in specs/: Walk/Walk has the walk of one sample and Walk/History who is bled at each sample of a history, both as
 // document 01 says it; Resting/Steps and Walk/Steps have what the code works out, and Walk/Balance shows that the two agree.
+
+#![tactic(auto)]
+
 pub mod chooser;
 pub mod resting;

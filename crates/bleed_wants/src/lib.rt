@@ -1,4 +1,7 @@
 // Who wants bleeding: one cell's wish, and the wishes of a pack as a word, bit k - 1 for cell k.
+
+#![tactic(auto)]
+
 ghost use Rattle.std.specs.Prelude.{◌≡◌, true, false, ◌&&◌, ltb};
 ghost use Rattle.bleed_wants.specs.Wants.{is_charging, wants};
 ghost use Rattle.bleed_wants.specs.Steps.{wanting_word};

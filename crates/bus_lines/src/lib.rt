@@ -1,4 +1,7 @@
 // The bus as text: one line for each command from 00 to ff, with the three bytes that answer it in hexadecimal, or `refused` and the number.
+
+#![tactic(auto)]
+
 ghost use Rattle.std.specs.Prelude.{◌≡◌, ◌∷◌, [], ◌++◌, ◌+◌, ◌<◌, ◌≤◌, length};
 ghost use Rattle.text_writing.specs.Placing.{Put};
 ghost use Rattle.pack.specs.Kept.{Kept};

@@ -1,4 +1,7 @@
 // The commands of the bus: what each of them sends.
+
+#![tactic(auto)]
+
 ghost use Rattle.std.specs.Prelude.{◌≡◌};
 ghost use Rattle.bus_table.specs.Table.{row_of_command};
 

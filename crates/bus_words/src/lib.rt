@@ -1,4 +1,7 @@
 // The words that are sent: for each row of the table of commands its word.
+
+#![tactic(auto)]
+
 ghost use Rattle.std.specs.Prelude.{◌≡◌, cond, ◌*◌, ◌≤◌};
 ghost use Rattle.laws.specs.Bits.{has_bit};
 ghost use Rattle.units.specs.Cells.{ten_at_most};

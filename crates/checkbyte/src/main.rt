@@ -1,5 +1,8 @@
 // checkbyte FILE: writes the check byte of the file's bytes, as two hexadecimal digits and a newline. The file may have any length.
 // What it cannot do it says on standard error, and then writes nothing else.
+
+#![tactic(auto)]
+
 ghost use Rattle.std.specs.Prelude.{◌≡◌, true, take};
 ghost use Rattle.crc.specs.CheckByte.{remainder};
 

@@ -1,4 +1,7 @@
 // The check byte: the SMBus CRC-8 of a run of bytes, worked four bits at a time.
+
+#![tactic(auto)]
+
 ghost use Rattle.std.specs.Prelude.{◌≡◌};
 ghost use Rattle.crc.specs.CheckByte.{times_xs, with_byte, remainder, check_byte};
 

@@ -59,7 +59,7 @@ use Rattle.log_answers.specs.Says.{says, line-told}
 use Rattle.log_answers.specs.Tell.{tell}
 use Rattle.log_answers.specs.Seventeen.{is_seventeen, is_malformed, seventeen-exactly}
 use Rattle.log_texts.specs.Texts.{header_text}
-use Rattle.log.specs.Replay.{replayed}
+use Rattle.pack_log.specs.Replay.{replayed}
 use Rattle.demands.specs.Answers as answers
 use Rattle.demands.specs.Answers.{IsAnswered, IsReplied, is-answered, is-replied}
 use Rattle.demands.specs.ByWords as words

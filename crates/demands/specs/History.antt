@@ -15,7 +15,7 @@ use Rattle.log_lines.specs.Output as any
 use Rattle.log_answers.specs.declared.Told.{Told}
 use Rattle.log_answers.specs.Says.{events_with, says, line-told, line-pack}
 use Rattle.log_texts.specs.Texts.{told_text, header_text}
-use Rattle.log.specs.Replay.{next_pack, line_text, replayed}
+use Rattle.pack_log.specs.Replay.{next_pack, line_text, replayed}
 
 module _ (page : List ℕ) where
   -- What document 01 says of some lines, one behind the other.

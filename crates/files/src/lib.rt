@@ -1,6 +1,9 @@
 // Files, for the programs alone: bytes read and written through the kit's io, libc and os. What the C library does is the kit's assumption; every
 // function here is proved over it. Whatever cannot be done is said on standard error, with the file's name in front, and the answer is not ok.
 // A call that a signal interrupts counts as one that failed.
+
+#![tactic(auto)]
+
 ghost use Rattle.std.specs.Prelude.{◌≡◌, true, ◌≤◌, length};
 
 // A loop over a file that may never end is proved to end by a count that falls: 2^64 - 1 turns, more than any file has bytes.

@@ -1,4 +1,7 @@
 // What the raised protections say: the word of them, and which switches they block.
+
+#![tactic(auto)]
+
 ghost use Rattle.std.specs.Prelude.{◌≡◌};
 ghost use Rattle.guard.specs.Runs.{is_raised};
 ghost use Rattle.protections.specs.Table.{protections};

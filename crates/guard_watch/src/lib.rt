@@ -1,5 +1,8 @@
 // What is kept of the protections beside them, so that a sample which moves none of them asks none: the values at which none moves,
 // the word of the raised ones, and the switches that they block.
+
+#![tactic(auto)]
+
 ghost use Rattle.std.specs.Prelude.{◌≡◌, ◌≤◌};
 ghost use Rattle.std.specs.Int.Signed.{lt_z};
 ghost use Rattle.protections.specs.Table.{protections};

@@ -1,5 +1,8 @@
 // Laws with no battery in them, which the other crates share (specs/), the two ways in which code meets a word's
 // bits, a run of samples, counted, and a byte as a wider number.
+
+#![tactic(auto)]
+
 ghost use Rattle.std.specs.Prelude.{◌≡◌, ◌≤◌};
 ghost use Rattle.laws.specs.Bits.{has_bit, with_bit_if};
 ghost use Rattle.laws.specs.Latest.{next_run};

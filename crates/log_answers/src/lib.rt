@@ -1,4 +1,7 @@
 // What a line of the log does to a pack, as a value: its answer, before it is text, and the pack behind it.
+
+#![tactic(auto)]
+
 ghost use Rattle.std.specs.Prelude.{◌≡◌};
 ghost use Rattle.refusals.specs.Answers.{answer_of};
 ghost use Rattle.refusals.specs.Refusals.{given};

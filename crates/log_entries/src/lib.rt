@@ -1,4 +1,7 @@
 // Entries: what a line of the log says, as a value. Each field is read as a part of the line.
+
+#![tactic(auto)]
+
 ghost use Rattle.std.specs.Prelude.{◌≡◌, [], ◌+◌, ◌≤◌, length, get_or};
 ghost use Rattle.text_fields.specs.Fields.{fields_of};
 ghost use Rattle.log_entries.specs.Entry.{malformed, offer, read_command, read_sample, read_entry};

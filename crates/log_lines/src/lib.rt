@@ -1,4 +1,7 @@
 // Lines: a log cut into lines wherever the reads cut it, with nothing said of what a line means.
+
+#![tactic(auto)]
+
 ghost use Rattle.std.specs.Prelude.{◌≡◌, ◌≤◌};
 ghost use Rattle.log_lines.specs.Lines.{next_line};
 ghost use Rattle.log_lines.specs.Carrying.{carried, move_down};

@@ -1,4 +1,7 @@
 // Answers: the text of what a line is answered with, and of what is written before the lines.
+
+#![tactic(auto)]
+
 ghost use Rattle.std.specs.Prelude.{◌+◌, ◌≤◌, length};
 ghost use Rattle.text_writing.specs.Placing.{Put};
 ghost use Rattle.text_writing.specs.Rows.{field_text};

@@ -1,4 +1,7 @@
 // The pack: loading a page, offering a sample, commanding the switches.
+
+#![tactic(auto)]
+
 ghost use Rattle.std.specs.Prelude.{◌≡◌};
 ghost use Rattle.refusals.specs.Answers.{answer_of};
 ghost use Rattle.refusals.specs.Refusals.{given};

@@ -1,4 +1,7 @@
 // What the state of a pack shows: the switches, the mode, and the five fields of a line of the replay.
+
+#![tactic(auto)]
+
 ghost use Rattle.std.specs.Prelude.{◌≡◌, ◌<◌};
 ghost use Rattle.laws.specs.Bits.{has_bit};
 ghost use Rattle.pack_state.specs.State.{Watched};

@@ -1,4 +1,7 @@
 // The state of a pack: what it holds, and one accepted sample on.
+
+#![tactic(auto)]
+
 ghost use Rattle.std.specs.Prelude.{◌≡◌};
 ghost use Rattle.pack_state.specs.State.{next_tick, want_at, next_balance, accepted_by, Watched};
 

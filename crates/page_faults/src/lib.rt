@@ -1,4 +1,7 @@
 // The two layouts of a settings page, what each word of it is, and what rows 5 to 8 of the refusal table ask of it.
+
+#![tactic(auto)]
+
 ghost use Rattle.std.specs.Prelude.{◌≡◌};
 ghost use Rattle.page_faults.specs.declared.Kind.{Kind};
 ghost use Rattle.page_faults.specs.Kinds.{layout_of, check_at, trip_word, front_kind, part_kind, kind_of};

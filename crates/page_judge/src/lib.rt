@@ -1,4 +1,7 @@
 // The settings page: the judge that gives refusals 1 to 8, for a page of 128 bytes and for one of 160.
+
+#![tactic(auto)]
+
 ghost use Rattle.std.specs.Prelude.{◌≡◌};
 ghost use Rattle.refusals.specs.Refusals.{given};
 ghost use Rattle.refusals.specs.Answers.{answer_of};

@@ -1,4 +1,7 @@
 // What an accepted settings page says, in the units of the samples.
+
+#![tactic(auto)]
+
 ghost use Rattle.std.specs.Prelude.{◌≡◌, ◌≤◌, ◌<◌};
 ghost use Rattle.units.specs.Levels.{level};
 ghost use Rattle.protections.specs.Limits.{no_limits};

@@ -1,4 +1,7 @@
 // The words of the settings page one by one: reading them, the ranges that they have, the levels that they stand for.
+
+#![tactic(auto)]
+
 ghost use Rattle.std.specs.Prelude.{◌≡◌, get_or};
 ghost use Rattle.units.specs.Levels.{page_level};
 ghost use Rattle.units.specs.Signed.{signed_of};

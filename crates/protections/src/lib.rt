@@ -1,4 +1,7 @@
 // The table of the protections, document 01's eight and document 02's two: what each looks at, which way it trips, its mode number.
+
+#![tactic(auto)]
+
 ghost use Rattle.std.specs.Prelude.{◌≡◌};
 ghost use Rattle.protections.specs.Direction.{back_of};
 ghost use Rattle.protections.specs.Table.{row_with, row_at};

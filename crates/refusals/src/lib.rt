@@ -1,4 +1,7 @@
 // Refusals: the answer that a page, a sample and a switch command get, and the tables that document 01 gives it by.
+
+#![tactic(auto)]
+
 ghost use Rattle.std.specs.Prelude.{◌≡◌};
 ghost use Rattle.refusals.specs.declared.Verdict.{Verdict};
 

@@ -1,6 +1,9 @@
 // replay PAGE LOG: writes what a settings page and a log give to standard output, the header and one line per log line, or the
 // one line of a refused page. What it cannot do it says on standard error; until a page and the first part of the log are read it
 // writes nothing else.
+
+#![tactic(auto)]
+
 ghost use Rattle.std.specs.Prelude.{◌≡◌, true, ◌≤◌, length};
 ghost use Rattle.pack.specs.Kept.{Kept};
 
@@ -24,7 +27,7 @@ fn answer_part(p: Pack, buf: &mut [u8], have: usize, out: &mut [u8]) -> Round
     ensures held_bound { result.done ≡ true → result.held ≤ 129 }
 {
     let waiting = &mut buf[..have];
-    let r = log::chunk::feed(p, waiting, out);
+    let r = pack_log::chunk::feed(p, waiting, out);
     let n = r.written;
     let text = &out[..n];
     let ok = files::write_text(text);
@@ -89,7 +92,7 @@ fn answer(name: &[u8], fd: i32, p: Pack, buf: &mut [u8], first: usize, out: &mut
 {
     let r = answer_lines(name, fd, p, buf, first, out);
     if r.ok {
-        let n = log::ends::put_closing(buf, r.held);
+        let n = pack_log::ends::put_closing(buf, r.held);
         let k = r.pack;
         answer_part(k, buf, n, out);
     }
@@ -99,7 +102,7 @@ fn answer(name: &[u8], fd: i32, p: Pack, buf: &mut [u8], first: usize, out: &mut
 fn replay(page: &[u8], name: &[u8], fd: i32, buf: &mut [u8], first: usize, out: &mut [u8])
     requires { first ≤ length buf.old }
 {
-    let b = log::ends::begin(page, out);
+    let b = pack_log::ends::begin(page, out);
     let n = b.written;
     let text = &out[..n];
     if !files::write_text(text) {

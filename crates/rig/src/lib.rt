@@ -1,4 +1,7 @@
 // What the bench rig's host program, written in C, calls. tests/rig/keeper.h has the prototypes.
+
+#![tactic(auto)]
+
 ghost use Rattle.std.specs.Prelude.{◌≡◌, length};
 ghost use Rattle.crc.specs.CheckByte.{check_byte};
 ghost use Rattle.page_judge.specs.Page.{judged};

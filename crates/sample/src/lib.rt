@@ -1,4 +1,7 @@
 // The quantities of a sample, which the protections look at: its highest and lowest cell, its current, its temperatures.
+
+#![tactic(auto)]
+
 ghost use Rattle.std.specs.Prelude.{◌≡◌};
 ghost use Rattle.units.specs.Levels.{level};
 ghost use Rattle.sample.specs.Cells.{larger, smaller, widened, extremes_of};

@@ -1,4 +1,7 @@
 // Text: where a byte stands, and the fields of a line as parts of the caller's line.
+
+#![tactic(auto)]
+
 ghost use Rattle.std.specs.Prelude.{◌≡◌, ◌+◌, ◌-◌, ◌≤◌, length, drop};
 ghost use Rattle.text_fields.specs.Finding.{before, none_of};
 ghost use Rattle.text_fields.specs.Fields.{field_at};

@@ -1,4 +1,7 @@
 // Numbers read in place: the field that starts at a place of a line. Most numbers of a log have four digits, and those are read at once.
+
+#![tactic(auto)]
+
 ghost use Rattle.std.specs.Prelude.{◌≡◌, ◌+◌, ◌-◌, ◌<◌, ◌≤◌, length};
 ghost use Rattle.text_number_at.specs.Four.{together, spells_four, valued, read_four};
 ghost use Rattle.text_number_at.specs.NumberAt.{read_four_at, four_left, number_at};

@@ -1,4 +1,7 @@
 // Numbers: decimal numbers read from a field, and the sign of a number.
+
+#![tactic(auto)]
+
 ghost use Rattle.std.specs.Prelude.{◌≡◌, ◌-◌, ◌≤◌, length};
 ghost use Rattle.text_numbers.specs.Numbers.{digits_to, number_to, read_number, negative};
 ghost use Rattle.text_numbers.specs.Signs.{with_sign, past_minus};

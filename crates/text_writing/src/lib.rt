@@ -1,4 +1,7 @@
 // Writing: bytes and decimal numbers put into a lent buffer, where they have room.
+
+#![tactic(auto)]
+
 ghost use Rattle.std.specs.Prelude.{◌≡◌, [], ◌∷◌, ◌+◌, ◌≤◌, leb, length};
 ghost use Rattle.text_fields.specs.Decimal.{decimal};
 ghost use Rattle.text_writing.specs.Placing.{Put, written};

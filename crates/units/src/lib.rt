@@ -1,4 +1,7 @@
 // The kinds of number that may not be mixed, and a 16-bit word as a signed number and back.
+
+#![tactic(auto)]
+
 ghost use Rattle.std.specs.Prelude.{◌≡◌};
 ghost use Rattle.units.specs.Cells.{ten_at_most};
 ghost use Rattle.units.specs.Signed.{signed_of, word_of};

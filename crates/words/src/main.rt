@@ -1,6 +1,9 @@
 // words PAGE LOG: passes over the log and then writes what the pack answers on the bus, one line for each command from 00 to ff: the reply's
 // three bytes in hexadecimal, or `refused` and the number. A refused page gives its one line. What it cannot do it says on standard
 // error; until the log is read to its end it writes nothing else.
+
+#![tactic(auto)]
+
 ghost use Rattle.pack.specs.Kept.{Kept};
 
 use pack_state::Pack;

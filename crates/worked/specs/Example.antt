@@ -3,7 +3,7 @@
 -- Assumes nothing.
 use Rattle.std.specs.Prelude.{ℕ, ◌≡◌, refl, List, [], ◌∷◌}
 use Rattle.text_fields.specs.Quoted.{quoted}
-use Rattle.log.specs.Replay.{replayed}
+use Rattle.pack_log.specs.Replay.{replayed}
 use Rattle.laws.specs.Bits as laws-bits
 use Rattle.laws.specs.Each as laws-each
 use Rattle.laws.specs.Latest as laws-latest
@@ -40,7 +40,7 @@ use Rattle.pack_state.specs.State as state-state
 use Rattle.log_entries.specs.Entry as entries-entry
 use Rattle.log_answers.specs.Tell as log-answers-tell
 use Rattle.log_texts.specs.Texts as answers-texts
-use Rattle.log.specs.Replay as log-replay
+use Rattle.pack_log.specs.Replay as log-replay
 
 -- n 2, K 1, R 4, floor 3900, difference 10, detection 100; protection 0: 4250, 4150, 2, 2, mask 1
 abbrev pub page : List ℕ

@@ -1,4 +1,0 @@
-pub mod chunk;
-pub mod ends;
-pub mod next;
-pub mod pass;

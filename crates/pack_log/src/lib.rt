@@ -1,0 +1,6 @@
+#![tactic(auto)]
+
+pub mod chunk;
+pub mod ends;
+pub mod next;
+pub mod pass;
