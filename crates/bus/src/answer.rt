@@ -8,7 +8,7 @@ use crc::check_byte;
 use pack_state::Pack;
 
 // The three bytes of a reply.
-#[derive(Drop)]
+#[derive(Clone, Copy)]
 pub struct Framed {
     pub low: u8,
     pub high: u8,
@@ -16,7 +16,7 @@ pub struct Framed {
 }
 
 // The answer to a command: three bytes stand in the buffer, or it is refused.
-#[derive(Drop)]
+#[derive(Clone, Copy)]
 pub enum Replied {
     Sent,
     Refused { number: u8 },

@@ -8,7 +8,7 @@ ghost use Rattle.bus_table.specs.Table.{row_of_command};
 use units::CellNo;
 
 // The words that a pack has one of.
-#[derive(Drop)]
+#[derive(Clone, Copy)]
 pub enum PackWord {
     Temperature1,
     Temperature2,
@@ -24,7 +24,7 @@ pub enum PackWord {
 }
 
 // What a command sends: a cell, a word of the whole pack, or nothing where it isn't in the table.
-#[derive(Drop)]
+#[derive(Clone, Copy)]
 pub enum Sends {
     Nothing,
     Cell(CellNo),

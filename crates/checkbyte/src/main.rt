@@ -9,7 +9,7 @@ ghost use Rattle.crc.specs.CheckByte.{remainder};
 use libc::STDOUT_FILENO;
 
 // What a read left: whether nothing failed, whether the file has ended, how many bytes it gave, and the check byte of all bytes so far.
-#[derive(Drop)]
+#[derive(Clone, Copy)]
 struct Taken {
     ok: bool,
     ended: bool,

@@ -10,14 +10,14 @@ ghost use Rattle.std.specs.Prelude.{◌≡◌, true, ◌≤◌, length};
 pub const TURNS: u64 = 18446744073709551615;
 
 // How many bytes of a buffer are filled, and whether nothing failed.
-#[derive(Drop)]
+#[derive(Clone, Copy)]
 pub struct Got {
     pub ok: bool,
     pub n: usize,
 }
 
 // What waits to be answered: how many bytes of the buffer, and whether the file has ended.
-#[derive(Drop)]
+#[derive(Clone, Copy)]
 pub struct More {
     pub ok: bool,
     pub ended: bool,
@@ -25,7 +25,7 @@ pub struct More {
 }
 
 // A page and a log that are open: the bytes of the page, the log's descriptor, and its first bytes.
-#[derive(Drop)]
+#[derive(Clone, Copy)]
 pub struct Opened {
     pub ok: bool,
     pub page: usize,

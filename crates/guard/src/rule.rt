@@ -9,14 +9,14 @@ use protections::{Direction, Limits, back_of};
 use units::Level;
 
 // Clear, with its run of tripping samples; or raised, with its run of releasing samples.
-#[derive(Drop)]
+#[derive(Clone, Copy)]
 pub enum Alarm {
     Clear(u8),
     Raised(u8),
 }
 
 // One protection: what the page says of it, and whether it is raised.
-#[derive(Drop)]
+#[derive(Clone, Copy)]
 pub struct Protection {
     pub limits: Limits,
     pub alarm: Alarm,

@@ -18,7 +18,7 @@ use sample::{Extremes, Sample, measured};
 use units::{Level, ProtectionNo};
 
 // The values between two levels, without the levels themselves.
-#[derive(Drop)]
+#[derive(Clone, Copy)]
 pub struct Band {
     pub above: Level,
     pub below: Level,
@@ -26,7 +26,7 @@ pub struct Band {
 
 // What is kept: for each quantity, by its place, the values at which no protection moves; bit p for raised p; bit 0 if a raised one
 // blocks charge, bit 1 if one blocks discharge.
-#[derive(Drop)]
+#[derive(Clone, Copy)]
 pub struct Watch {
     pub bands: [Band; 5],
     pub raised: u16,
@@ -34,7 +34,7 @@ pub struct Watch {
 }
 
 // The protections, and what is kept of them.
-#[derive(Drop)]
+#[derive(Clone, Copy)]
 pub struct Guarded {
     pub protections: [Protection; PROTECTIONS],
     pub watch: Watch,

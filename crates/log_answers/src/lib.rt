@@ -15,14 +15,14 @@ use pack_state::Pack;
 use refusals::Verdict;
 
 // What a line is answered with, before it is text: the five fields of the pack's decision, or the number of the refusal.
-#[derive(Drop)]
+#[derive(Clone, Copy)]
 pub enum Told {
     Decided(Decision),
     Refused(u8),
 }
 
 // What a line does: of which kind it is, what it is answered with, and the pack behind it.
-#[derive(Drop)]
+#[derive(Clone, Copy)]
 pub struct Outcome {
     pub kind: Kind,
     pub told: Told,

@@ -15,7 +15,7 @@ use text_numbers::{Number, Signed, past_minus, with_sign};
 use units::{DeciKelvin, MilliVolts};
 
 // What kind of line it is.
-#[derive(Drop)]
+#[derive(Clone, Copy)]
 pub enum Kind {
     Offer,
     Command,
@@ -23,7 +23,7 @@ pub enum Kind {
 }
 
 // A line as a value: the command of an `F` line, the sample of an `S` line; what the line does not have is 0.
-#[derive(Drop)]
+#[derive(Clone, Copy)]
 pub struct Entry {
     pub kind: Kind,
     pub command: u16,
@@ -152,7 +152,7 @@ pub fn read_entry(line: &[u8]) -> Entry
 
 // A line read along, before its newline was looked for: whether one was found, the place of its newline, and what it says. Where none was
 // found, they are 0 and a malformed line.
-#[derive(Drop)]
+#[derive(Clone, Copy)]
 pub struct Ahead {
     pub found: bool,
     pub end: usize,

@@ -7,7 +7,7 @@ ghost use Rattle.log_lines.specs.Lines.{next_line};
 ghost use Rattle.log_lines.specs.Carrying.{carried, move_down};
 
 // The next line of a buffer.
-#[derive(Drop)]
+#[derive(Clone, Copy)]
 pub enum NextLine {
     // Its newline stands at `end`, and the line behind it starts at `next`.
     Ends { end: usize, next: usize },

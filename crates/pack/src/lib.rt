@@ -21,7 +21,7 @@ use sample::{Sample, extremes_of, no_sample};
 use units::CellNo;
 
 // What a call answers, beside the state that it hands back.
-#[derive(Drop)]
+#[derive(Clone, Copy)]
 pub struct Answered {
     pub verdict: Verdict,
     pub pack: Pack,

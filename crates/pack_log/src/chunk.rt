@@ -7,7 +7,7 @@ use log_texts::ROOM;
 use pack_state::Pack;
 
 // How far a chunk of log was answered: whether no newline is left, the bytes used and written, and the pack behind them.
-#[derive(Drop)]
+#[derive(Clone, Copy)]
 pub struct Chunk {
     pub done: bool,
     pub used: usize,
@@ -16,7 +16,7 @@ pub struct Chunk {
 }
 
 // The same, with the number of bytes that wait at the front of the buffer.
-#[derive(Drop)]
+#[derive(Clone, Copy)]
 pub struct Fed {
     pub done: bool,
     pub used: usize,

@@ -12,7 +12,7 @@ use pack_state::Pack;
 use refusals::Verdict;
 
 // Where a log starts: what the page judge says, the bytes written, and the pack.
-#[derive(Drop)]
+#[derive(Clone, Copy)]
 pub struct Begun {
     pub verdict: Verdict,
     pub written: usize,

@@ -7,7 +7,7 @@ use log_lines::NextLine;
 
 // The next line of a buffer as a value: whether no newline is left; if one is, where the line behind it starts, and what the line says.
 // Where none is left, they are where it was looked for and a malformed line.
-#[derive(Drop)]
+#[derive(Clone, Copy)]
 pub struct NextEntry {
     pub unfinished: bool,
     pub next: usize,

@@ -6,14 +6,14 @@ use crate::next::next_entry;
 use pack_state::Pack;
 
 // How far a pass over a chunk of log came: the bytes used, and the pack behind them.
-#[derive(Drop)]
+#[derive(Clone, Copy)]
 pub struct Gone {
     pub used: usize,
     pub pack: Pack,
 }
 
 // The same, with the number of bytes that wait at the front of the buffer.
-#[derive(Drop)]
+#[derive(Clone, Copy)]
 pub struct Rest {
     pub used: usize,
     pub held: usize,

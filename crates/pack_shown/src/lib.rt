@@ -14,7 +14,7 @@ use protections::{Mode, row_of};
 use units::ProtectionNo;
 
 // The five fields of a line of the replay.
-#[derive(Drop)]
+#[derive(Clone, Copy)]
 pub struct Decision {
     pub tick: u32,
     pub raised: u16,

@@ -19,7 +19,7 @@ use units::CellNo;
 // cell, and at how many samples in a row up to now each cell was bled. Bit k - 1 of a word stands for cell k. No word and no line shows
 // `begun` and `rested`; `begun-is` and `rested-is` (specs/Steps) say what they are.
 #[repr(C)]
-#[derive(Drop)]
+#[derive(Clone, Copy)]
 pub struct Balance {
     pub begun: CellNo,
     pub rested: u16,
@@ -30,7 +30,7 @@ pub struct Balance {
 
 // The state of a pack: what the page says (its limits stand in the protections), and what was kept since; `watch` is what the protections
 // come to. It does not grow with the history. Without a page n is 0, and every sample is refused.
-#[derive(Drop)]
+#[derive(Clone, Copy)]
 pub struct Pack {
     pub rules: Rules,
     pub protections: [Protection; PROTECTIONS],

@@ -12,7 +12,7 @@ use protections::row_of;
 use units::ProtectionNo;
 
 // What a page of one kind looks like: its mark, how many protections it has from word 16 on, and its last word.
-#[derive(Drop)]
+#[derive(Clone, Copy)]
 pub struct Layout {
     pub mark: u16,
     pub protections: u8,
@@ -20,7 +20,7 @@ pub struct Layout {
 }
 
 // What a word of the page is.
-#[derive(Drop)]
+#[derive(Clone, Copy)]
 pub enum Kind {
     Mark,
     // One of words 1 to 8, a number of low..high.

@@ -21,7 +21,7 @@ use units::{Level, MilliVolts, ProtectionNo, signed_of};
 // The page's words 1 to 8: cells n, most cells bled at once K, run limit R, balance floor and difference, charge detection current,
 // charging voltage per cell and charging current.
 #[repr(C)]
-#[derive(Drop)]
+#[derive(Clone, Copy)]
 pub struct Rules {
     pub n: u8,
     pub k: u8,
@@ -34,14 +34,14 @@ pub struct Rules {
 }
 
 // The settings: words 1 to 8, and the limits of every protection.
-#[derive(Drop)]
+#[derive(Clone, Copy)]
 pub struct Settings {
     pub rules: Rules,
     pub limits: [Limits; PROTECTIONS],
 }
 
 // A page's verdict, and what it says if it is accepted.
-#[derive(Drop)]
+#[derive(Clone, Copy)]
 pub struct Loaded {
     pub verdict: Verdict,
     pub settings: Settings,

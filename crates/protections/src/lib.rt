@@ -12,7 +12,7 @@ use units::{Level, ProtectionNo};
 pub const PROTECTIONS: usize = 10;
 
 // What a protection looks at in a sample.
-#[derive(Drop)]
+#[derive(Clone, Copy)]
 pub enum Quantity {
     HighestCell,
     LowestCell,
@@ -22,14 +22,14 @@ pub enum Quantity {
 }
 
 // A protection trips at or above its trip level, or at or below it.
-#[derive(Drop)]
+#[derive(Clone, Copy)]
 pub enum Direction {
     Above,
     Below,
 }
 
 // The number that a raised protection gives command 0x41, if it has one.
-#[derive(Drop)]
+#[derive(Clone, Copy)]
 pub enum Mode {
     Silent,
     Number(u8),
@@ -47,7 +47,7 @@ pub fn back_of(d: Direction) -> Direction
 
 // What a page says of one protection: its levels, in the unit of what it looks at, the two run lengths, the switch mask.
 #[repr(C)]
-#[derive(Drop)]
+#[derive(Clone, Copy)]
 pub struct Limits {
     pub trip: Level,
     pub release: Level,
@@ -57,7 +57,7 @@ pub struct Limits {
 }
 
 // A row of the table.
-#[derive(Drop)]
+#[derive(Clone, Copy)]
 pub struct Row {
     pub quantity: Quantity,
     pub direction: Direction,

@@ -11,7 +11,7 @@ use pack_state::Pack;
 use refusals::Verdict;
 
 // What a round left: whether nothing failed, whether no line is left, whether the log has ended, and the bytes that wait for the next one.
-#[derive(Drop)]
+#[derive(Clone, Copy)]
 struct Round {
     ok: bool,
     done: bool,

@@ -13,7 +13,7 @@ use units::{CellNo, DeciKelvin, Level, MilliVolts, ten_at_most};
 
 // A sample: the first `count` entries are cells 1 to `count`, and the entries past them are no cells.
 #[repr(C)]
-#[derive(Drop)]
+#[derive(Clone, Copy)]
 pub struct Sample {
     pub count: u8,
     pub cells: [MilliVolts; 10],
@@ -23,14 +23,14 @@ pub struct Sample {
 }
 
 // A cell that was found: its number, and its millivolts.
-#[derive(Drop)]
+#[derive(Clone, Copy)]
 pub struct Found {
     pub number: CellNo,
     pub volts: MilliVolts,
 }
 
 // The highest and the lowest cell of a sample.
-#[derive(Drop)]
+#[derive(Clone, Copy)]
 pub struct Extremes {
     pub highest: Found,
     pub lowest: Found,

@@ -12,7 +12,7 @@ use text_fields::field;
 use text_numbers::{Number, read_number};
 
 // The field at a place of a line as a number, and the place where it ends.
-#[derive(Drop)]
+#[derive(Clone, Copy)]
 pub enum FieldNumber {
     Value { number: u16, end: usize },
     Malformed,
@@ -43,7 +43,7 @@ fn valued(x: u32) -> u16
 }
 
 // Four bytes read at once: whether they spell a number that does not begin with 0, and the number; if not, it is 0.
-#[derive(Drop)]
+#[derive(Clone, Copy)]
 pub struct FourRead {
     pub spelt: bool,
     pub number: u16,

@@ -9,14 +9,14 @@ ghost use Rattle.text_numbers.specs.Signs.{with_sign, past_minus};
 use laws::wide;
 
 // A field as a number.
-#[derive(Drop)]
+#[derive(Clone, Copy)]
 pub enum Number {
     Value(u16),
     Malformed,
 }
 
 // A field as a number that may have a minus.
-#[derive(Drop)]
+#[derive(Clone, Copy)]
 pub enum Signed {
     Value(i16),
     Malformed,

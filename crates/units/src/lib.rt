@@ -8,30 +8,30 @@ ghost use Rattle.units.specs.Signed.{signed_of, word_of};
 
 // Millivolts: a cell, the balance floor and difference, the charging voltage.
 #[repr(C)]
-#[derive(Drop)]
+#[derive(Clone, Copy)]
 pub struct MilliVolts(pub u16);
 
 // Tenths of a kelvin: a temperature sample.
 #[repr(C)]
-#[derive(Drop)]
+#[derive(Clone, Copy)]
 pub struct DeciKelvin(pub u16);
 
 // The number of a cell, from 1 as document 01 counts them.
 #[repr(C)]
-#[derive(Drop)]
+#[derive(Clone, Copy)]
 pub struct CellNo(pub u8);
 
 // The number p of a protection, from 0.
-#[derive(Drop)]
+#[derive(Clone, Copy)]
 pub struct ProtectionNo(pub u8);
 
 // What a protection looks at and the levels it is held against, in the unit of the samples: mV, mA or tenths of a kelvin.
 #[repr(C)]
-#[derive(Drop)]
+#[derive(Clone, Copy)]
 pub struct Level(pub i32);
 
 // A trip or release level in the unit of the page: mV, mA or degrees.
-#[derive(Drop)]
+#[derive(Clone, Copy)]
 pub struct PageLevel(pub i32);
 
 // How many entries of an array of ten are cells: a number over ten stands for ten.
