@@ -1,0 +1,17 @@
+-- `bleed::resting::next_runs` meets its contract. The loop's invariant: the first i counters are stepped, the others are as they were.
+-- Assumes nothing.
+use Prim.Native.Nat.{◌≤◌, ◌-◌}
+use mathlib.Core.Path.{◌≡◌, refl, sym}
+use native.Mathlib.Omega.{arith}
+use lib.ListN.{length}
+use borrow.Author.Rules.{rules}
+use Rattle.laws.specs.Each.{each_to}
+use Rattle.bleed.specs.Resting.Steps.{next_runs_to, next_runs}
+use Rattle.bleed.specs.Resting.StepLaws.{runs-none, runs-next}
+use Rattle.bleed.proofs.resting.next_runs.Given as goal
+
+abbrev pub invariant-loop-i : goal.invariant-loop-i
+invariant-loop-i l = (l.i ≤ 10) × (l.next ≡ next_runs_to l.bled l.i l.initial.next)
+
+abbrev pub decreases-loop-i : goal.decreases-loop-i
+decreases-loop-i l = 10 - l.i

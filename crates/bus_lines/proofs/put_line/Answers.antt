@@ -1,0 +1,11 @@
+-- `bus_lines::put_line` meets its contract. Assumes nothing.
+use Rattle.bus_words.specs.Bounds.{kept-bounded}
+use Rattle.bus_lines.specs.Lines.{word-put}
+use borrow.Author.Rules.{rules}
+use Rattle.bus_lines.proofs.put_line.Goals as goal
+
+pub reply-answer-requires : goal.reply-answer-requires
+reply-answer-requires c = kept-bounded _ c.requires.0
+
+pub returns : goal.returns
+returns c = let both = word-put _ _ _ _ c.reply-answer.ensures.value.0 c.reply-answer.ensures.out_after c.requires.1 (c.put_reply.ensures.put, c.put_reply.ensures.three_len_bound) in record { put = both.0; command_len_bound = both.1 }

@@ -1,0 +1,21 @@
+-- `guard_raised::lowest_raised` meets its contract: what is left of the search finds what the whole search finds. Assumes nothing.
+use mathlib.Core.Path.{◌≡◌, sym, ap, ◌∙◌}
+use Prim.Native.Nat.{◌-◌, ◌≤◌}
+use Rattle.protections.specs.Table.{protections}
+use Rattle.guard_raised.specs.Words.{raised_at}
+use Rattle.guard_raised.specs.Lowest.{numbered, lowest_from, lowest_of, search-starts, search-finds, search-goes-on, search-ends}
+use borrow.Author.Rules.{rules}
+use native.Mathlib.Omega.{arith}
+use Rattle.guard_raised.proofs.lowest_raised.Goals as goal
+
+pub loop-i-init : goal.loop-i-init
+loop-i-init c = (omega arith, search-starts _ protections)
+
+pub returns-then-is_raised : goal.returns-then-is_raised
+returns-then-is_raised c = ap numbered (sym (search-finds _ protections _ (omega arith) (sym c.is_raised.ensures ∙ c.if-is_raised.true)) ∙ c.loop-i.invariant.1)
+
+pub loop-i-preserved : goal.loop-i-preserved
+loop-i-preserved c = (omega arith, search-goes-on _ protections _ (omega arith) (sym c.is_raised.ensures ∙ c.if-is_raised.false) ∙ c.loop-i.invariant.1)
+
+pub returns : goal.returns
+returns c = ap numbered (let e : c.loop-i.i ≡ protections = omega arith in e ∙ sym (search-ends _ protections _ e) ∙ c.loop-i.invariant.1)

@@ -1,0 +1,10 @@
+-- `log_answers::tell_entry` meets its contract. Assumes nothing.
+use Rattle.log_answers.specs.Tell.{entry-made}
+use borrow.Author.Rules.{rules}
+use Rattle.log_answers.proofs.tell_entry.Goals as goal
+
+pub outcome_of-requires : goal.outcome_of-requires
+outcome_of-requires c = c.answered_by-a.ensures.verdict_value.1
+
+pub returns : goal.returns
+returns c = let both = entry-made _ _ _ _ c.answered_by-a.ensures.value c.outcome_of.ensures c.answered_by-a.ensures.verdict_value.1 in record { value = both.0; kept = both.1 }

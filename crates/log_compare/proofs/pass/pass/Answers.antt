@@ -1,0 +1,8 @@
+-- `log_compare::pass::pass` meets its contract. Assumes nothing.
+use Rattle.log_lines.specs.Run.{feed-made}
+use Rattle.log_compare.specs.Pass.{next_both, no_text}
+use borrow.Author.Rules.{rules}
+use Rattle.log_compare.proofs.pass.pass.Goals as goal
+
+pub returns : goal.returns
+returns c = record { pass = feed-made next_both no_text 0 _ _ _ _ _ _ _ _ _ _ c.pass_chunk-r.ensures.pass_chunk c.carried-held.ensures.value c.move_down.ensures; kept = c.pass_chunk-r.ensures.kept }

@@ -1,0 +1,31 @@
+-- `log_compare::pass::pass_chunk` meets its contract. Assumes nothing.
+use mathlib.Core.List.{[]}
+use Prim.Native.Nat.{◌-◌}
+use lib.ListN.{length}
+use Rattle.log_lines.specs.Chunk.{Going, going-start, going-done}
+use Rattle.pack.specs.Kept.{Kept}
+use Rattle.pack_log.specs.Next.{next-is}
+use Rattle.log_compare.specs.Pass.{next_both, no_text, pass-on}
+use borrow.Author.Rules.{rules}
+use native.Mathlib.Omega.{arith}
+use Rattle.log_compare.proofs.pass.pass_chunk.Goals as goal
+
+pub loop-n-init : goal.loop-n-init
+loop-n-init c = (going-start next_both no_text 0 _ _ _, c.requires)
+
+pub returns-then-n : goal.returns-then-n
+returns-then-n c = let i = c.loop-n.invariant in
+    record { pass_chunk = going-done next_both no_text 0 _ _ _ _ _ _ _ i.0 ((next-is _ _ _ c.next_entry-n.ensures).none c.if-n.true); kept = i.1 }
+
+pub tell_both-k-requires : goal.tell_both-k-requires
+tell_both-k-requires c = c.loop-n.invariant.1
+
+pub loop-n-smaller : goal.loop-n-smaller
+loop-n-smaller c = let e = (next-is _ _ _ c.next_entry-n.ensures).ended c.if-n.false in
+    let n = e.0 in
+    omega (arith, n.after, n.start, n.inside)
+
+pub loop-n-preserved : goal.loop-n-preserved
+loop-n-preserved c = let i = c.loop-n.invariant in
+    let e = (next-is _ _ _ c.next_entry-n.ensures).ended c.if-n.false in
+    (pass-on _ _ _ _ i.0 _ _ e.0 _ e.1 _ c.tell_both-k.ensures.value, c.tell_both-k.ensures.kept)

@@ -1,0 +1,17 @@
+-- `log_compare::pass::pass_chunk` meets its contract. Assumes nothing.
+use mathlib.Core.List.{[]}
+use Prim.Native.Nat.{◌-◌}
+use lib.ListN.{length}
+use Rattle.log_lines.specs.Chunk.{Going, going-start, going-done}
+use Rattle.pack.specs.Kept.{Kept}
+use Rattle.pack_log.specs.Next.{next-is}
+use Rattle.log_compare.specs.Pass.{next_both, no_text, pass-on}
+use borrow.Author.Rules.{rules}
+use native.Mathlib.Omega.{arith}
+use Rattle.log_compare.proofs.pass.pass_chunk.Given as goal
+
+abbrev pub invariant-loop-n : goal.invariant-loop-n
+invariant-loop-n l = Going next_both no_text 0 l.bytes [] l.initial.k l.at 0 l.k [] × (Kept l.k.first × Kept l.k.second)
+
+abbrev pub decreases-loop-n : goal.decreases-loop-n
+decreases-loop-n l = length l.bytes - l.at

@@ -1,0 +1,6 @@
+-- `log_entries::nothing_found` meets its contract. Assumes nothing.
+use borrow.Author.Rules.{rules}
+use Rattle.log_entries.proofs.nothing_found.Goals as goal
+
+pub returns : goal.returns
+returns c = cc

@@ -1,0 +1,25 @@
+-- `log_entries::read_ahead` meets its contract: each way out settles how the line starts. Assumes nothing.
+use mathlib.Core.Path.{sym, ◌∙◌}
+use Prim.Native.Nat.{◌+◌}
+use native.Mathlib.Omega.{arith}
+use Rattle.log_entries.specs.Ahead.{start-short, start-not, start-sample, sample-ahead}
+use borrow.Author.Rules.{rules}
+use Rattle.log_entries.proofs.read_ahead.Goals as goal
+
+pub returns-then-n-from : goal.returns-then-n-from
+returns-then-n-from c = let a = c.args in
+    c.nothing_found.ensures ∙ start-short a.bytes.now a.from (omega arith)
+
+pub returns-then-n-from-lt2 : goal.returns-then-n-from-lt2
+returns-then-n-from-lt2 c = let a = c.args in
+    c.nothing_found-then-n-from-lt2.ensures ∙ start-short a.bytes.now a.from (omega arith)
+
+pub returns-then-starts_sample : goal.returns-then-starts_sample
+returns-then-starts_sample c = let a = c.args in
+    rw c.past_minus-start.ensures.value at c.numbers_ahead.ensures
+    ∙ sample-ahead a.bytes.now (a.from + 2)
+    ∙ start-sample a.bytes.now a.from (omega arith) (sym c.starts_sample.ensures ∙ c.if-starts_sample.true)
+
+pub returns : goal.returns
+returns c = let a = c.args in
+    c.nothing_found-2.ensures ∙ start-not a.bytes.now a.from (omega arith) (sym c.starts_sample.ensures ∙ c.if-starts_sample.false)

@@ -1,0 +1,78 @@
+-- `log_entries::read_numbers` meets its contract
+use mathlib.Core.Path.{◌≡◌, refl, sym, ap, ◌∙◌}
+use Prim.Native.Nat.{◌≤◌, ◌+◌, ◌-◌}
+use lib.ListN.{length, get_or, length-set}
+use Rattle.text_fields.specs.Fields.{field_at}
+use Rattle.text_fields.specs.Splitting.{field-within}
+use Rattle.text_number_at.specs.NumberAt.{number-at-value, number-at-none}
+use Rattle.text_numbers.specs.declared.Signed.{Signed}
+use Rattle.log_entries.proofs.Current.{current-same}
+use Rattle.log_entries.specs.Entry.{offer, if_signed}
+use Rattle.log_entries.specs.Left.{left, left-none, left-next}
+use Rattle.log_entries.specs.InTurn.{cells_of, read_numbers, behind, NoCell, behind-over, behind-none, behind-next, behind-few, behind-all}
+use borrow.Author.Rules.{rules}
+use native.Mathlib.Omega.{arith}
+use Rattle.log_entries.proofs.read_numbers.Goals as goal
+
+pub loop-at-init : goal.loop-at-init
+unfolding behind cells_of
+loop-at-init c = (omega arith, omega arith, refl, (λ h. refl), refl)
+
+pub returns-then-count-ge13 : goal.returns-then-count-ge13
+returns-then-count-ge13 c = let l = c.loop-at in
+    let a = c.args in
+    c.no_entry.ensures
+    ∙ sym (ap (behind a.below l.count l.numbers) (left-next a.line.now l.at _ refl (omega arith)) ∙ behind-over _ _ _ l.count l.numbers c.if-count-ge13.true)
+    ∙ l.invariant.4
+
+pub returns-in_default : goal.returns-in_default
+returns-in_default c = let l = c.loop-at in
+    let a = c.args in
+    c.no_entry-in_default.ensures
+    ∙ sym (ap (behind a.below l.count l.numbers) (left-next a.line.now l.at _ refl (omega arith))
+    ∙ behind-none _ _ _ l.count l.numbers (omega arith) (number-at-none a.line.now l.at (sym c.number_at-n.ensures ∙ c.enum_told-1.given.1)))
+    ∙ l.invariant.4
+
+pub overflow_add-at : goal.overflow_add-at
+overflow_add-at c = let l = c.loop-at in
+    let a = c.args in
+    let q = number-at-value a.line.now l.at c.n-1.given.0.0 c.n-1.given.0.1.0 (sym c.number_at-n.ensures ∙ c.n-1.given.1) in
+    omega (arith, q.1, field-within a.line.now l.at (omega arith))
+
+pub loop-at-smaller : goal.loop-at-smaller
+loop-at-smaller c = let l = c.loop-at in
+    let a = c.args in
+    let q = number-at-value a.line.now l.at c.n-1.given.0.0 c.n-1.given.0.1.0 (sym c.number_at-n.ensures ∙ c.n-1.given.1) in
+    omega (arith, q.1, field-within a.line.now l.at (omega arith))
+
+pub loop-at-preserved : goal.loop-at-preserved
+loop-at-preserved c = let l = c.loop-at in
+    let a = c.args in
+    let q = number-at-value a.line.now l.at c.n-1.given.0.0 c.n-1.given.0.1.0 (sym c.number_at-n.ensures ∙ c.n-1.given.1) in
+    let f = field_at a.line.now l.at in
+    let n = behind-next a.below f (left a.line.now (l.at + length f + 1)) l.count c.n-1.given.0.0 l.numbers (omega arith) l.invariant.2 l.invariant.3 q.0 in
+    (omega arith, omega (arith, q.1, field-within a.line.now l.at (omega arith)), rw length-set l.invariant.2, n.1, rw q.1 (sym (ap (behind a.below l.count l.numbers) (left-next a.line.now l.at _ refl (omega arith)) ∙ n.0) ∙ l.invariant.4))
+
+pub returns-then-count-lt3 : goal.returns-then-count-lt3
+returns-then-count-lt3 c = let l = c.loop-at in
+    let a = c.args in
+    c.no_entry-then-count-lt3.ensures ∙ sym (ap (behind a.below l.count l.numbers) (left-none a.line.now l.at (omega arith)) ∙ behind-few _ l.count l.numbers c.if-count-lt3.true) ∙ l.invariant.4
+
+pub returns-in_default-c : goal.returns-in_default-c
+returns-in_default-c c = let l = c.loop-at in
+    let a = c.args in
+    c.no_entry-in_default-c.ensures
+    ∙ sym (ap (behind a.below l.count l.numbers) (left-none a.line.now l.at (omega arith))
+    ∙ behind-all a.below l.count l.numbers c.if-count-lt3.false
+    ∙ ap (λ (s : Signed). if_signed s (λ current. offer current (get_or l.numbers 1 0) (get_or l.numbers 2 0) (l.count - 3) (cells_of l.numbers))) (sym c.with_sign-c.ensures ∙ c.enum_told-in_default-c-1.given.1))
+    ∙ l.invariant.4
+
+pub returns : goal.returns
+returns c = let l = c.loop-at in
+    let a = c.args in
+    let e = sym c.with_sign-c.ensures ∙ c.c-1.given.1 in
+    rw (current-same a.below (get_or l.numbers 0 0) c.c-1.given.0.0 e) at c.offered.ensures
+    ∙ sym (ap (behind a.below l.count l.numbers) (left-none a.line.now l.at (omega arith))
+    ∙ behind-all a.below l.count l.numbers c.if-count-lt3.false
+    ∙ ap (λ (s : Signed). if_signed s (λ current. offer current (get_or l.numbers 1 0) (get_or l.numbers 2 0) (l.count - 3) (cells_of l.numbers))) e)
+    ∙ l.invariant.4

@@ -1,0 +1,14 @@
+-- `move_down` meets its contract. The loop's invariant: the first i bytes are those from from on, and the buffer is else as it was.
+use Prim.Native.Nat.{◌-◌, ◌≤◌, ◌+◌}
+use mathlib.Core.Path.{◌≡◌}
+use native.Mathlib.Omega.{arith}
+use lib.ListN.{length}
+use borrow.Author.Rules.{rules}
+use Rattle.log_lines.specs.Carrying.{Moved, moved-start, moved-on, moved-end, moved-not}
+use Rattle.log_lines.proofs.move_down.Given as goal
+
+abbrev pub invariant-loop-i : goal.invariant-loop-i
+invariant-loop-i l = (l.from + l.count ≤ length l.initial.buf) × (l.i ≤ l.count) × Moved l.initial.buf l.from l.i l.buf
+
+abbrev pub decreases-loop-i : goal.decreases-loop-i
+decreases-loop-i l = l.count - l.i

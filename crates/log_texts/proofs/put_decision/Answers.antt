@@ -1,0 +1,7 @@
+-- `log_texts::put_decision` meets its contract. Assumes nothing.
+use Rattle.log_texts.specs.Writing.{decision-put}
+use borrow.Author.Rules.{rules}
+use Rattle.log_texts.proofs.put_decision.Goals as goal
+
+pub returns : goal.returns
+returns c = let both = decision-put c.args.d c.requires (c.put_row.ensures.put, c.put_row.ensures.fifth_len_bound) in record { put = both.0; d_len_bound = both.1 }

@@ -1,0 +1,7 @@
+-- `log_texts::put_field` meets its contract. Assumes nothing.
+use Rattle.text_writing.specs.Rows.{put-field}
+use borrow.Author.Rules.{rules}
+use Rattle.log_texts.proofs.put_field.Goals as goal
+
+pub returns : goal.returns
+returns c = put-field c.args.v c.args.end c.requires c.put_decimal-e.ensures.put c.put_byte.ensures.put

@@ -1,0 +1,8 @@
+-- `pack::fresh_pack` meets its contract. Assumes nothing.
+use Rattle.pack_state.specs.State.{fresh_pack}
+use borrow.Author.Rules.{rules}
+use Rattle.pack.proofs.fresh_pack.Goals as goal
+
+pub returns : goal.returns
+unfolding fresh_pack
+returns c = rw (c.no_sample-latest.ensures, c.fresh_balance-balance.ensures, c.watch_of-watch.ensures, c.fresh-protections.ensures)

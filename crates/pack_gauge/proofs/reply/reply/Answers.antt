@@ -1,0 +1,26 @@
+-- `pack_gauge::reply::reply` meets its contract. Assumes nothing.
+use mathlib.Core.Path.{sym, ◌∙◌}
+use Rattle.bus_words.specs.Bounds.{kept-bounded}
+use Rattle.pack_gauge.specs.Filled.{filled-kept}
+use Rattle.pack_gauge.specs.Replies.{reply-waits, reply-own, reply-other}
+use borrow.Author.Rules.{rules}
+use Rattle.pack_gauge.proofs.reply.reply.Goals as goal
+
+pub returns-then-must_wait : goal.returns-then-must_wait
+returns-then-must_wait c = let both = reply-waits _ c.requires _ _ _ (sym c.is_own.ensures ∙ c.if-is_own.true)
+    (sym c.must_wait.ensures ∙ c.if-must_wait.true) c.before_a_sample.ensures in record { value = both.0; out_after = both.1 }
+
+pub own_word-word-requires : goal.own_word-word-requires
+own_word-word-requires c = c.requires
+
+pub returns-then-is_own : goal.returns-then-is_own
+returns-then-is_own c = let both = reply-own _ c.requires _ _ _ _ _ (sym c.is_own.ensures ∙ c.if-is_own.true)
+    (sym c.must_wait.ensures ∙ c.if-must_wait.false) c.own_word-word.ensures
+    c.put_word.ensures.value.0 c.put_word.ensures.out_after in record { value = both.0; out_after = both.1 }
+
+pub reply-requires : goal.reply-requires
+reply-requires c = kept-bounded _ (filled-kept _ c.requires)
+
+pub returns : goal.returns
+returns c = let both = reply-other _ c.requires _ _ _ _ (sym c.is_own.ensures ∙ c.if-is_own.false)
+    c.reply.ensures.value.0 c.reply.ensures.out_after in record { value = both.0; out_after = both.1 }

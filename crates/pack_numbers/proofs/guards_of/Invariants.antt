@@ -1,0 +1,16 @@
+-- `pack_numbers::guards_of` meets its contract. Assumes nothing.
+use mathlib.Core.Path.{◌≡◌, refl, ◌∙◌}
+use Prim.Native.Nat.{◌≤◌, ◌-◌}
+use lib.ListN.{length}
+use Rattle.laws.specs.Each.{each_to}
+use Rattle.protections.specs.Table.{protections}
+use Rattle.pack_numbers.specs.Numbers.{guards_to, guards-next, guards-are}
+use borrow.Author.Rules.{rules}
+use native.Mathlib.Omega.{arith}
+use Rattle.pack_numbers.proofs.guards_of.Given as goal
+
+abbrev pub invariant-loop-i : goal.invariant-loop-i
+invariant-loop-i l = (l.i ≤ protections) × (length l.initial.all ≡ protections) × (l.all ≡ guards_to l.ps l.initial.all l.i)
+
+abbrev pub decreases-loop-i : goal.decreases-loop-i
+decreases-loop-i l = protections - l.i

@@ -1,0 +1,8 @@
+-- `pack_numbers::numbers_of` meets its contract. Assumes nothing.
+use Rattle.pack_numbers.specs.Numbers.{numbers_of}
+use borrow.Author.Rules.{rules}
+use Rattle.pack_numbers.proofs.numbers_of.Goals as goal
+
+pub returns : goal.returns
+unfolding numbers_of
+returns c = rw (c.number_of.ensures, c.guards_of-guards.ensures)

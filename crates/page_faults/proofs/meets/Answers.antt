@@ -1,0 +1,8 @@
+-- `page_faults::meets` meets its contract. Assumes nothing.
+use Rattle.page_faults.specs.Met.{meets}
+use borrow.Author.Rules.{rules}
+use Rattle.page_faults.proofs.meets.Goals as goal
+
+pub returns : goal.returns
+unfolding meets
+returns c = rw (← c.kind_of.ensures) c.kind_meets.ensures

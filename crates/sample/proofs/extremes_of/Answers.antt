@@ -1,0 +1,29 @@
+-- `sample::extremes_of` meets its contract: after i cells, e are the extremes of the first i, which are no more than are looked at. Assumes nothing.
+use mathlib.Core.Path.{◌≡◌, sym, ap, ◌∙◌}
+use Prim.Native.Nat.{◌-◌, ◌≤◌}
+use Rattle.units.specs.Cells.{ten-most}
+use Rattle.sample.specs.Cells.{extremes_of, extremes_to, extremes-none, extremes-first, extremes-next}
+use borrow.Author.Rules.{rules}
+use native.Mathlib.Omega.{arith}
+use Rattle.sample.proofs.extremes_of.Goals as goal
+
+pub returns-then-n-eq0 : goal.returns-then-n-eq0
+returns-then-n-eq0 c = extremes-none _ _ (sym c.ten_at_most-n.ensures ∙ c.if-n-eq0.true)
+
+pub loop-i-init : goal.loop-i-init
+loop-i-init c = (omega arith, omega arith, rw c.ten_at_most-n.ensures (ten-most c.args.count), extremes-first _)
+
+pub returns-then-n-i : goal.returns-then-n-i
+unfolding extremes_of
+returns-then-n-i c = let looked = c.ten_at_most-n in
+    let k : c.loop-i.i ≡ looked.result = omega arith in
+    c.loop-i.invariant.3 ∙ ap (extremes_to c.args.t1) (k ∙ looked.ensures)
+
+pub loop-i-preserved : goal.loop-i-preserved
+loop-i-preserved c = (omega arith, omega arith, omega arith, c.widened-e.ensures ∙ extremes-next _ _ _ (omega arith) c.loop-i.invariant.3)
+
+pub returns : goal.returns
+unfolding extremes_of
+returns c = let looked = c.ten_at_most-n in
+    let k : c.loop-i.i ≡ looked.result = omega arith in
+    c.loop-i.invariant.3 ∙ ap (extremes_to c.args.t1) (k ∙ looked.ensures)

@@ -1,0 +1,8 @@
+-- `season::begin` meets its contract. Assumes nothing.
+use Rattle.season.specs.Taking.{begin_with}
+use borrow.Author.Rules.{rules}
+use Rattle.season.proofs.begin.Goals as goal
+
+pub returns : goal.returns
+unfolding begin_with
+returns c = rw c.no_figures-figures.ensures

@@ -1,0 +1,9 @@
+-- `season::count` meets its contract. Assumes nothing.
+use Rattle.log_lines.specs.Run.{feed-made}
+use Rattle.season.specs.Taking.{next_season}
+use Rattle.season.specs.Chunks.{no_text}
+use borrow.Author.Rules.{rules}
+use Rattle.season.proofs.count.Goals as goal
+
+pub returns : goal.returns
+returns c = record { count = feed-made next_season no_text 0 _ _ _ _ _ _ _ _ _ _ c.count_chunk-r.ensures.count_chunk c.carried-held.ensures.value c.move_down.ensures; kept = c.count_chunk-r.ensures.kept }

@@ -1,0 +1,37 @@
+-- `season_texts::put_report` meets its contract
+use mathlib.Core.Path.{◌≡◌, refl, ◌∙◌}
+use Prim.Native.Nat.{ℕ, ◌-◌, ◌≤◌}
+use lib.ListN.{length}
+use Rattle.text_writing.specs.Putting.{put-length}
+use Rattle.season_texts.specs.Texts.{row_value, row_line, room}
+use Rattle.season_texts.specs.Lines.{Putting, putting-start, putting-place, putting-on}
+use Rattle.season_texts.specs.Writing.{row-few, report-short, report-made}
+use borrow.Author.Rules.{rules}
+use native.Mathlib.Omega.{arith}
+use Rattle.season_texts.proofs.put_report.Goals as goal
+
+pub returns-then-out-lt-ROOM : goal.returns-then-out-lt-ROOM
+returns-then-out-lt-ROOM c = let both = report-short _ _ _ c.if-out-lt-ROOM.true in record { put = both.0; upper_bound = both.1 }
+
+pub loop-j-init : goal.loop-j-init
+loop-j-init c = (putting-start _ 41 _, omega arith, omega arith, refl)
+
+pub put_line-at-requires : goal.put_line-at-requires
+put_line-at-requires c = let i = c.loop-j.invariant in
+    let k = c.lines_for-count.ensures.upper_bound in
+    let z = putting-place _ i.0 (omega (arith, i.1, i.2)) in
+    omega (arith, z.0, z.1, i.1, i.2)
+
+pub loop-j-preserved : goal.loop-j-preserved
+loop-j-preserved c = let l = c.loop-j in
+    let k = c.lines_for-count.ensures.upper_bound in
+    let v = c.figure_at-v in
+    (putting-on _ l.invariant.0 (omega (arith, l.invariant.1, l.invariant.2)) _ _ (rw v.ensures at c.put_line-at.ensures) (row-few _ _ (omega arith) (omega arith)), omega arith, l.invariant.2, put-length c.put_line-at.ensures ∙ l.invariant.3)
+
+pub shape_of-out : goal.shape_of-out
+shape_of-out c = c.loop-j.invariant.3
+
+pub returns : goal.returns
+returns c = let l = c.loop-j in
+    let e : l.j ≡ c.lines_for-count.result = omega arith in
+    let both = report-made _ _ _ _ _ _ l.invariant.2 (e ∙ c.lines_for-count.ensures.value) (omega (arith, c.lines_for-count.ensures.value, c.lines_for-count.ensures.upper_bound)) l.invariant.0 in record { put = both.0; upper_bound = both.1 }

@@ -1,0 +1,17 @@
+-- `season_texts::put_report` meets its contract. The loop keeps: the first j lines stand in the buffer. Assumes nothing.
+use mathlib.Core.Path.{◌≡◌, refl, ◌∙◌}
+use Prim.Native.Nat.{ℕ, ◌-◌, ◌≤◌}
+use lib.ListN.{length}
+use Rattle.text_writing.specs.Putting.{put-length}
+use Rattle.season_texts.specs.Texts.{row_value, row_line, room}
+use Rattle.season_texts.specs.Lines.{Putting, putting-start, putting-place, putting-on}
+use Rattle.season_texts.specs.Writing.{row-few, report-short, report-made}
+use borrow.Author.Rules.{rules}
+use native.Mathlib.Omega.{arith}
+use Rattle.season_texts.proofs.put_report.Given as goal
+
+abbrev pub invariant-loop-j : goal.invariant-loop-j
+invariant-loop-j l = Putting (λ (i : ℕ). row_line i (row_value l.f i)) 41 l.initial.out l.at l.j l.out × (l.j ≤ l.count) × (room ≤ length l.initial.out) × (length l.out ≡ length l.initial.out)
+
+abbrev pub decreases-loop-j : goal.decreases-loop-j
+decreases-loop-j l = l.count - l.j

@@ -1,0 +1,15 @@
+-- `sheet_write::value_at` meets its contract. Assumes nothing.
+use mathlib.Core.Path.{sym, ◌∙◌}
+use Rattle.sheet_names.specs.Names.{layout_for}
+use Rattle.sheet_write.specs.Lines.{value-check, value-word}
+use borrow.Author.Rules.{rules}
+use Rattle.sheet_write.proofs.value_at.Goals as goal
+
+pub returns-then-i-last_line : goal.returns-then-i-last_line
+returns-then-i-last_line c = let a = c.args in
+    c.wide.ensures.0 ∙ c.byte_at-check.ensures
+    ∙ value-check (layout_for a.long) a.page.now a.i (c.if-i-last_line.true ∙ c.last_line.ensures)
+
+pub returns : goal.returns
+returns c = let a = c.args in
+    c.word_at.ensures ∙ value-word (layout_for a.long) a.page.now a.i (λ e. c.if-i-last_line.false (e ∙ sym c.last_line.ensures))

@@ -1,0 +1,15 @@
+-- `find` meets its contract. The loop's invariant: the search from e ends where the search from the start ends.
+use Prim.Native.Nat.{◌+◌, ◌-◌, ◌≤◌}
+use mathlib.Core.Path.{◌≡◌, refl, sym, ◌∙◌}
+use native.Mathlib.Omega.{arith}
+use lib.ListN.{length, drop}
+use borrow.Author.Rules.{rules}
+use Rattle.text_fields.specs.Finding.{before, find-behind}
+use Rattle.text_fields.proofs.find.Given as goal
+
+abbrev pub invariant-loop-e : goal.invariant-loop-e
+invariant-loop-e l = (l.from ≤ l.e) × (l.e - l.from ≤ length l.bytes - l.from)
+    × (l.e + length (before l.wanted (drop l.e l.bytes)) ≡ l.from + length (before l.wanted (drop l.from l.bytes)))
+
+abbrev pub decreases-loop-e : goal.decreases-loop-e
+decreases-loop-e l = length l.bytes - l.e

@@ -1,0 +1,15 @@
+-- `digits` meets its contract. The loop's invariant: the digits that are left, behind the number so far, are read as the whole field is.
+use Prim.Native.Nat.{◌-◌, ◌≤◌}
+use mathlib.Core.Path.{◌≡◌, refl, sym, ◌∙◌}
+use native.Mathlib.Omega.{arith}
+use lib.ListN.{length, drop}
+use borrow.Author.Rules.{rules}
+use Rattle.text_numbers.proofs.Reading.{low, high, large, turn, over}
+use Rattle.text_numbers.specs.Numbers.{digits_to}
+use Rattle.text_numbers.proofs.digits.Given as goal
+
+abbrev pub invariant-loop-i : goal.invariant-loop-i
+invariant-loop-i l = (l.i ≤ length l.field) × (l.v ≤ l.most) × (digits_to l.most l.v (drop l.i l.field) ≡ digits_to l.most 0 l.field)
+
+abbrev pub decreases-loop-i : goal.decreases-loop-i
+decreases-loop-i l = length l.field - l.i

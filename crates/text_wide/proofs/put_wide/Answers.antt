@@ -1,0 +1,14 @@
+-- `text_wide::put_wide` meets its contract. Assumes nothing.
+use native.Mathlib.Omega.{arith}
+use Rattle.text_wide.specs.Places.{wide-not, wide-put}
+use borrow.Author.Rules.{rules}
+use Rattle.text_wide.proofs.put_wide.Goals as goal
+
+pub returns-then-out-k : goal.returns-then-out-k
+returns-then-out-k c = let both = wide-not _ _ _ _ (c.places-k.ensures.value, c.places-k.ensures.lower_bound) (omega (arith, c.if-out-k.true)) in record { put = both.0; upper_bound = both.1 }
+
+pub returns-then-out-k-2 : goal.returns-then-out-k-2
+returns-then-out-k-2 c = let both = wide-not _ _ _ _ (c.places-k.ensures.value, c.places-k.ensures.lower_bound) (omega (arith, c.if-out-k-2.true, c.if-out-k.false)) in record { put = both.0; upper_bound = both.1 }
+
+pub returns : goal.returns
+returns c = let both = wide-put _ _ _ _ (c.places-k.ensures.value, c.places-k.ensures.lower_bound) _ (omega (arith, c.if-out-k-2.false, c.if-out-k.false)) c.put_digits.ensures in record { put = both.0; upper_bound = both.1 }

@@ -1,0 +1,19 @@
+-- `put_field` meets its contract.
+use mathlib.Core.List.{[], ◌∷◌}
+use native.Mathlib.Omega.{arith}
+use lib.ListN.{length-append}
+use Rattle.text_fields.specs.Decimal.{decimal}
+use Rattle.text_writing.specs.Rows.{put-room, put-field}
+use borrow.Author.Rules.{rules}
+use Rattle.text_writing.proofs.put_field.Goals as goal
+
+pub put_decimal_in-e-requires : goal.put_decimal_in-e-requires
+put_decimal_in-e-requires c = let a = c.args in
+    omega (arith, length-append (decimal a.v) (a.end ∷ []))
+
+pub put_byte_in-requires : goal.put_byte_in-requires
+put_byte_in-requires c = let a = c.args in
+    put-room 1 c.put_decimal_in-e.ensures.put (omega (arith, length-append (decimal a.v) (a.end ∷ [])))
+
+pub returns : goal.returns
+returns c = put-field c.args.v c.args.end c.requires c.put_decimal_in-e.ensures.put c.put_byte_in.ensures.put
