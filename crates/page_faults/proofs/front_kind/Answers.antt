@@ -39,4 +39,4 @@ returns-in-8 c = rw c.in-8.is c.setting-in-8.ensures
 -- A number that is at least k and not k is at least k + 1.
 
 pub returns-in_default : goal.returns-in_default
-returns-in_default c = let r = c.in_default.rest in sym (front-past c.args.i (past _ 8 (past _ 7 (past _ 6 (past _ 5 (past _ 4 (past _ 3 (past _ 2 (past _ 1 (past _ 0 zero-le r.0.0.0.0.0.0.0.0.1) r.0.0.0.0.0.0.0.1) r.0.0.0.0.0.0.1) r.0.0.0.0.0.1) r.0.0.0.0.1) r.0.0.0.1) r.0.0.1) r.0.1) r.1))
+returns-in_default c = let r = c.in_default.in_default-own.rest in sym (front-past c.args.i (past _ 8 (past _ 7 (past _ 6 (past _ 5 (past _ 4 (past _ 3 (past _ 2 (past _ 1 (past _ 0 zero-le r.0.0.0.0.0.0.0.0.1) r.0.0.0.0.0.0.0.1) r.0.0.0.0.0.0.1) r.0.0.0.0.0.1) r.0.0.0.0.1) r.0.0.0.1) r.0.0.1) r.0.1) r.1))

@@ -24,4 +24,4 @@ returns-in-3 c = rw c.in-3.is c.limit-in-3.ensures
 -- A number that is at least k and not k is at least k + 1.
 
 pub returns-in_default : goal.returns-in_default
-returns-in_default c = let r = c.in_default.rest in c.limit-in_default.ensures ∙ sym (part-past c.args.p c.args.f (past _ 3 (past _ 2 (past _ 1 (past _ 0 zero-le r.0.0.0.1) r.0.0.1) r.0.1) r.1))
+returns-in_default c = let r = c.in_default.in_default-own.rest in c.limit-in_default.ensures ∙ sym (part-past c.args.p c.args.f (past _ 3 (past _ 2 (past _ 1 (past _ 0 zero-le r.0.0.0.1) r.0.0.1) r.0.1) r.1))
