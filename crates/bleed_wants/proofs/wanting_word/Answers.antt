@@ -1,20 +1,15 @@
 -- `bleed_wants::wanting_word` meets its contract
-use Prim.Native.Nat.{suc, ◌≤◌, ◌-◌}
 use mathlib.Core.Path.{◌≡◌, sym, ◌∙◌}
-use mathlib.Core.Bool.{◌&&◌}
 use mathlib.Core.Logic.{inl, inr}
 use native.Mathlib.Omega.{arith}
-use lib.Dec.{ltb}
-use borrow.Author.Rules.{rules}
-use borrow.Author.Tests.{not-true, not-false}
-use Rattle.laws.specs.Words.{bits_of, bits-none, bits-next, bits-within}
+use Rattle.laws.specs.Words.{bits-none, bits-next, bits-within}
 use Rattle.bleed_wants.specs.Word.{cells_passing}
-use Rattle.bleed_wants.specs.Steps.{wishes, wanting_word}
+use Rattle.bleed_wants.specs.Steps.{wanting_word}
 use Rattle.bleed_wants.specs.StepLaws.{wanting-none, wishes-at}
 use Rattle.bleed_wants.proofs.wanting_word.Goals as goal
 
 pub returns-then-not-charging : goal.returns-then-not-charging
-returns-then-not-charging c = sym (wanting-none _ _ _ _ _ _ _ (inl (not-true _ c.if-not-charging.true)))
+returns-then-not-charging c = sym (wanting-none _ _ _ _ _ _ _ (inl c.if-not-charging.true))
 
 pub returns-then-raised : goal.returns-then-raised
 returns-then-raised c = sym (wanting-none _ _ _ _ _ _ _ (inr c.if-raised.true))
@@ -28,7 +23,7 @@ loop-i-preserved c = let a = c.args in (
   bits-next _ _ _ _ _ c.loop-i.invariant.1
       (c.wants_at-on.ensures
       ∙ wishes-at a.n a.charging a.raised a.floor.0 a.difference.0 a.lowest.0 _ c.loop-i.i
-      (not-false a.charging c.if-not-charging.false) c.if-raised.false)
+      c.if-not-charging.false c.if-raised.false)
       c.with_bit_if-word.ensures,
 )
 

@@ -1,17 +1,11 @@
 -- `bleed_wants::wanting_word` meets its contract. The loop's invariant: the word is that of the wanting cells of the pack among the first i.
 -- Assumes nothing.
 use Prim.Native.Nat.{suc, ◌≤◌, ◌-◌}
-use mathlib.Core.Path.{◌≡◌, sym, ◌∙◌}
+use mathlib.Core.Path.{◌≡◌}
 use mathlib.Core.Bool.{◌&&◌}
-use mathlib.Core.Logic.{inl, inr}
-use native.Mathlib.Omega.{arith}
 use lib.Dec.{ltb}
-use borrow.Author.Rules.{rules}
-use borrow.Author.Tests.{not-true, not-false}
-use Rattle.laws.specs.Words.{bits_of, bits-none, bits-next, bits-within}
-use Rattle.bleed_wants.specs.Word.{cells_passing}
-use Rattle.bleed_wants.specs.Steps.{wishes, wanting_word}
-use Rattle.bleed_wants.specs.StepLaws.{wanting-none, wishes-at}
+use Rattle.laws.specs.Words.{bits_of}
+use Rattle.bleed_wants.specs.Steps.{wishes}
 use Rattle.bleed_wants.proofs.wanting_word.Given as goal
 
 abbrev pub invariant-loop-i : goal.invariant-loop-i

@@ -1,5 +1,4 @@
 -- `bleed_wants::wants_at` meets its contract. Assumes nothing.
-use borrow.Author.Rules.{rules}
 use borrow.Author.Tests.{lt-ltb, le-ltb}
 use Rattle.bleed_wants.proofs.wants_at.Goals as goal
 
