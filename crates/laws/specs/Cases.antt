@@ -1,6 +1,6 @@
 -- Computed cases of the definitions of this crate.
 -- Assumes nothing.
-use Rattle.std.specs.Prelude.{◌≡◌, refl, Bool, true, false, List, [], ◌∷◌, map, ℕ, ◌+◌, eqb, ltb}
+use Rattle.std.specs.Prelude.{◌≡◌, refl, true, false, List, [], ◌∷◌, map, ℕ, ◌+◌, eqb, ltb}
 use Rattle.laws.specs.Bits.{has_bit, with_bit, with_bit_if}
 use Rattle.laws.specs.Words.{bits_of, any_of}
 use Rattle.laws.specs.Latest.{next_run, last_all, among, run}

@@ -1,7 +1,6 @@
 -- `laws::has_bit` meets its contract: a bit past the width is not set. Assumes nothing.
 use mathlib.Core.Path.{refl, sym}
 use native.Mathlib.Omega.{arith}
-use borrow.Author.Rules.{rules}
 use Rattle.laws.specs.Bits.{has_bit, has-past}
 use Rattle.laws.proofs.has_bit.Goals as goal
 

@@ -1,5 +1,4 @@
 -- `laws::next_run` meets its contract. Assumes nothing.
-use borrow.Author.Rules.{rules}
 use borrow.Author.Tests.{lt-ltb, le-ltb}
 use Rattle.laws.specs.Latest.{next_run}
 use Rattle.laws.proofs.next_run.Goals as goal

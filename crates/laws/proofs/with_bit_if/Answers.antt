@@ -2,7 +2,6 @@
 use mathlib.Core.Path.{sym, ap}
 use lib.Bits.{bit_or}
 use native.Mathlib.Omega.{arith}
-use borrow.Author.Rules.{rules}
 use Rattle.laws.specs.Bits.{with_bit, with_bit_if, shifted-one, with-past}
 use Rattle.laws.proofs.with_bit_if.Goals as goal
 
