@@ -1,6 +1,5 @@
 -- `field` meets its contract: the part up to the place that was found is the field.
 use native.Mathlib.Omega.{arith}
-use borrow.Author.Rules.{rules}
 use Rattle.text_fields.specs.Splitting.{field-part, field-length, field-past}
 use Rattle.text_fields.proofs.field.Goals as goal
 

@@ -1,10 +1,7 @@
 -- `find` meets its contract
-use Prim.Native.Nat.{◌+◌, ◌-◌, ◌≤◌}
-use mathlib.Core.Path.{◌≡◌, refl, sym, ◌∙◌}
+use mathlib.Core.Path.{refl, sym, ◌∙◌}
 use native.Mathlib.Omega.{arith}
-use lib.ListN.{length, drop}
-use borrow.Author.Rules.{rules}
-use Rattle.text_fields.specs.Finding.{before, find-behind}
+use Rattle.text_fields.specs.Finding.{find-behind}
 use Rattle.text_fields.proofs.find.Goals as goal
 
 pub loop-e-init : goal.loop-e-init

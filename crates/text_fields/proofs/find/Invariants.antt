@@ -1,10 +1,8 @@
 -- `find` meets its contract. The loop's invariant: the search from e ends where the search from the start ends.
 use Prim.Native.Nat.{◌+◌, ◌-◌, ◌≤◌}
-use mathlib.Core.Path.{◌≡◌, refl, sym, ◌∙◌}
-use native.Mathlib.Omega.{arith}
+use mathlib.Core.Path.{◌≡◌}
 use lib.ListN.{length, drop}
-use borrow.Author.Rules.{rules}
-use Rattle.text_fields.specs.Finding.{before, find-behind}
+use Rattle.text_fields.specs.Finding.{before}
 use Rattle.text_fields.proofs.find.Given as goal
 
 abbrev pub invariant-loop-e : goal.invariant-loop-e

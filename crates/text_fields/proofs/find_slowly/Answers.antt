@@ -1,10 +1,7 @@
 -- `find_slowly` meets its contract
-use Prim.Native.Nat.{◌+◌, ◌-◌, ◌≤◌}
-use mathlib.Core.Path.{◌≡◌, refl, ◌∙◌}
+use mathlib.Core.Path.{refl, ◌∙◌}
 use native.Mathlib.Omega.{arith}
-use lib.ListN.{length, drop}
-use borrow.Author.Rules.{rules}
-use Rattle.text_fields.specs.Finding.{before, find-on, find-here, find-past}
+use Rattle.text_fields.specs.Finding.{find-on, find-here, find-past}
 use Rattle.text_fields.proofs.find_slowly.Goals as goal
 
 pub loop-e-init : goal.loop-e-init
