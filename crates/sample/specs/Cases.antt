@@ -1,6 +1,6 @@
 -- Samples written short, and computed cases that pin each quantity.
 -- Assumes nothing.
-use Rattle.std.specs.Prelude.{◌≡◌, refl, Bool, true, false, List, [], ◌∷◌, map, ℕ, zero, suc, ℤ, pos, negsuc}
+use Rattle.std.specs.Prelude.{◌≡◌, refl, true, false, List, [], ◌∷◌, map, ℕ, zero, suc, ℤ, pos, negsuc}
 use Rattle.units.specs.declared.MilliVolts.{MilliVolts}
 use Rattle.laws.specs.Numbered.{list_from, list_of}
 use Rattle.protections.specs.declared.Direction.TheVariants.{Above, Below}

@@ -1,9 +1,7 @@
 -- `sample::extremes_of` meets its contract: after i cells, e are the extremes of the first i, which are no more than are looked at. Assumes nothing.
 use mathlib.Core.Path.{◌≡◌, sym, ap, ◌∙◌}
-use Prim.Native.Nat.{◌-◌, ◌≤◌}
 use Rattle.units.specs.Cells.{ten-most}
 use Rattle.sample.specs.Cells.{extremes_of, extremes_to, extremes-none, extremes-first, extremes-next}
-use borrow.Author.Rules.{rules}
 use native.Mathlib.Omega.{arith}
 use Rattle.sample.proofs.extremes_of.Goals as goal
 
@@ -17,7 +15,7 @@ pub returns-then-n-i : goal.returns-then-n-i
 unfolding extremes_of
 returns-then-n-i c = let looked = c.ten_at_most-n in
     let k : c.loop-i.i ≡ looked.result = omega arith in
-    c.loop-i.invariant.3 ∙ ap (extremes_to c.args.t1) (k ∙ looked.ensures)
+    c.loop-i.invariant.3 ∙ ap (extremes_to c.args.cells) (k ∙ looked.ensures)
 
 pub loop-i-preserved : goal.loop-i-preserved
 loop-i-preserved c = (omega arith, omega arith, omega arith, c.widened-e.ensures ∙ extremes-next _ _ _ (omega arith) c.loop-i.invariant.3)
@@ -26,4 +24,4 @@ pub returns : goal.returns
 unfolding extremes_of
 returns c = let looked = c.ten_at_most-n in
     let k : c.loop-i.i ≡ looked.result = omega arith in
-    c.loop-i.invariant.3 ∙ ap (extremes_to c.args.t1) (k ∙ looked.ensures)
+    c.loop-i.invariant.3 ∙ ap (extremes_to c.args.cells) (k ∙ looked.ensures)

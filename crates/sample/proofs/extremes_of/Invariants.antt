@@ -1,10 +1,7 @@
 -- `sample::extremes_of` meets its contract: after i cells, e are the extremes of the first i, which are no more than are looked at. Assumes nothing.
-use mathlib.Core.Path.{◌≡◌, sym, ap, ◌∙◌}
+use mathlib.Core.Path.{◌≡◌}
 use Prim.Native.Nat.{◌-◌, ◌≤◌}
-use Rattle.units.specs.Cells.{ten-most}
-use Rattle.sample.specs.Cells.{extremes_of, extremes_to, extremes-none, extremes-first, extremes-next}
-use borrow.Author.Rules.{rules}
-use native.Mathlib.Omega.{arith}
+use Rattle.sample.specs.Cells.{extremes_to}
 use Rattle.sample.proofs.extremes_of.Given as goal
 
 abbrev pub invariant-loop-i : goal.invariant-loop-i

@@ -1,6 +1,5 @@
 -- `sample::widened` meets its contract. Assumes nothing.
 use Rattle.sample.specs.Cells.{widened}
-use borrow.Author.Rules.{rules}
 use Rattle.sample.proofs.widened.Goals as goal
 
 pub returns : goal.returns
