@@ -1,9 +1,6 @@
 -- `bleed::chooser::choose` meets its contract
 use mathlib.Core.Path.{◌≡◌, refl, sym, ◌∙◌}
 use native.Mathlib.Omega.{arith}
-use borrow.Author.Rules.{rules}
-use borrow.Author.Tests.{not-true, not-false}
-use Rattle.bleed.specs.Walk.Steps.{take_from}
 use Rattle.bleed.specs.Walk.StepLaws.{take-on, take-none, chosen-is, chosen-nowhere, chosen-meets, chosen-none}
 use Rattle.bleed.proofs.chooser.choose.Goals as goal
 
@@ -11,7 +8,7 @@ pub returns-then-want-eq0 : goal.returns-then-want-eq0
 returns-then-want-eq0 c = chosen-meets _ _ _ _ _ _ (rw c.if-want-eq0.true (sym (chosen-none _ _ _ _)))
 
 pub returns-then-not-is_cell : goal.returns-then-not-is_cell
-returns-then-not-is_cell c = chosen-meets _ _ _ _ _ _ (sym (chosen-nowhere _ _ _ _ _ (sym c.is_cell.ensures ∙ not-true _ c.if-not-is_cell.true)))
+returns-then-not-is_cell c = chosen-meets _ _ _ _ _ _ (sym (chosen-nowhere _ _ _ _ _ (sym c.is_cell.ensures ∙ c.if-not-is_cell.true)))
 
 pub loop-left-init : goal.loop-left-init
 loop-left-init c = refl
@@ -23,4 +20,4 @@ loop-left-preserved c = rw (c.next_cell-cell.ensures, c.take_one-taken.ensures)
 pub returns : goal.returns
 returns c = let e : c.loop-left.left ≡ 0 = omega arith in
     chosen-meets _ _ _ _ _ _
-    (sym (take-none _ _ _ _ _ _) ∙ (rw e at c.loop-left.invariant) ∙ chosen-is _ _ _ _ _ (sym c.is_cell.ensures ∙ not-false _ c.if-not-is_cell.false))
+    (sym (take-none _ _ _ _ _ _) ∙ (rw e at c.loop-left.invariant) ∙ chosen-is _ _ _ _ _ (sym c.is_cell.ensures ∙ c.if-not-is_cell.false))

@@ -1,12 +1,8 @@
 -- `bleed::chooser::choose` meets its contract. The loop's invariant: what the cells that are left make of the word is what all cells make
 -- of the empty one, so that at the end the word is the whole walk's.
 -- Assumes nothing.
-use mathlib.Core.Path.{◌≡◌, refl, sym, ◌∙◌}
-use native.Mathlib.Omega.{arith}
-use borrow.Author.Rules.{rules}
-use borrow.Author.Tests.{not-true, not-false}
+use mathlib.Core.Path.{◌≡◌}
 use Rattle.bleed.specs.Walk.Steps.{take_from}
-use Rattle.bleed.specs.Walk.StepLaws.{take-on, take-none, chosen-is, chosen-nowhere, chosen-meets, chosen-none}
 use Rattle.bleed.proofs.chooser.choose.Given as goal
 
 abbrev pub invariant-loop-left : goal.invariant-loop-left

@@ -1,5 +1,4 @@
 -- `bleed::chooser::holds_cell` meets its contract. Assumes nothing.
-use borrow.Author.Rules.{rules}
 use borrow.Author.Tests.{lt-ltb, le-ltb}
 use Rattle.bleed_wants.specs.Word.{holds_cell}
 use Rattle.bleed.proofs.chooser.holds_cell.Goals as goal

@@ -1,5 +1,4 @@
 -- `bleed::chooser::take_one` meets its contract. Assumes nothing.
-use borrow.Author.Rules.{rules}
 use Rattle.bleed.specs.Walk.Word.{with-cell-not}
 use Rattle.bleed.specs.Walk.Steps.{take_one}
 use Rattle.bleed.proofs.chooser.take_one.Goals as goal

@@ -1,11 +1,8 @@
 -- `bleed::chooser::taken_before` meets its contract. The loop's invariant: what the cells that are left make of the word up to the cell is what
 -- all cells make of the empty one.
 -- Assumes nothing.
-use mathlib.Core.Path.{◌≡◌, refl, sym, ◌∙◌}
-use borrow.Author.Tests.{not-true, not-false}
-use Rattle.bleed.specs.Walk.Reached.{take_to, to-reached, to-on, to-none, taken-is, taken-nowhere}
-use borrow.Author.Rules.{rules}
-use native.Mathlib.Omega.{arith}
+use mathlib.Core.Path.{◌≡◌}
+use Rattle.bleed.specs.Walk.Reached.{take_to}
 use Rattle.bleed.proofs.chooser.taken_before.Given as goal
 
 abbrev pub invariant-loop-left : goal.invariant-loop-left

@@ -1,5 +1,4 @@
 -- `bleed::chooser::with_cell_if` meets its contract. Assumes nothing.
-use borrow.Author.Rules.{rules}
 use borrow.Author.Tests.{lt-ltb, le-ltb}
 use Rattle.bleed.specs.Walk.Word.{with_cell_if}
 use Rattle.bleed.proofs.chooser.with_cell_if.Goals as goal

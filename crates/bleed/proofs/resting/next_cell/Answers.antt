@@ -1,5 +1,4 @@
 -- `bleed::resting::next_cell` meets its contract. Assumes nothing.
-use borrow.Author.Rules.{rules}
 use borrow.Author.Tests.{lt-ltb, le-ltb}
 use Rattle.bleed.specs.Resting.Steps.{next_cell}
 use Rattle.bleed.proofs.resting.next_cell.Goals as goal

@@ -1,11 +1,10 @@
 -- `bleed::resting::next_runs` meets its contract
-use Prim.Native.Nat.{◌≤◌, ◌-◌}
 use mathlib.Core.Path.{◌≡◌, refl, sym}
 use native.Mathlib.Omega.{arith}
 use lib.ListN.{length}
 use borrow.Author.Rules.{rules}
 use Rattle.laws.specs.Each.{each_to}
-use Rattle.bleed.specs.Resting.Steps.{next_runs_to, next_runs}
+use Rattle.bleed.specs.Resting.Steps.{next_runs}
 use Rattle.bleed.specs.Resting.StepLaws.{runs-none, runs-next}
 use Rattle.bleed.proofs.resting.next_runs.Goals as goal
 

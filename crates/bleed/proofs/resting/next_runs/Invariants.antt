@@ -1,13 +1,8 @@
 -- `bleed::resting::next_runs` meets its contract. The loop's invariant: the first i counters are stepped, the others are as they were.
 -- Assumes nothing.
 use Prim.Native.Nat.{◌≤◌, ◌-◌}
-use mathlib.Core.Path.{◌≡◌, refl, sym}
-use native.Mathlib.Omega.{arith}
-use lib.ListN.{length}
-use borrow.Author.Rules.{rules}
-use Rattle.laws.specs.Each.{each_to}
-use Rattle.bleed.specs.Resting.Steps.{next_runs_to, next_runs}
-use Rattle.bleed.specs.Resting.StepLaws.{runs-none, runs-next}
+use mathlib.Core.Path.{◌≡◌}
+use Rattle.bleed.specs.Resting.Steps.{next_runs_to}
 use Rattle.bleed.proofs.resting.next_runs.Given as goal
 
 abbrev pub invariant-loop-i : goal.invariant-loop-i

@@ -1,14 +1,10 @@
 -- `bleed::resting::resting_word` meets its contract
-use Prim.Native.Nat.{suc, ◌≤◌, ◌-◌}
 use mathlib.Core.Path.{◌≡◌, ◌∙◌}
-use mathlib.Core.Bool.{◌&&◌}
 use native.Mathlib.Omega.{arith}
-use lib.Dec.{ltb}
-use borrow.Author.Rules.{rules}
 use borrow.Author.Tests.{eq-eqb, ne_eqb}
-use Rattle.laws.specs.Words.{bits_of, bits-none, bits-next, bits-within}
+use Rattle.laws.specs.Words.{bits-none, bits-next, bits-within}
 use Rattle.bleed_wants.specs.Word.{cells_passing}
-use Rattle.bleed.specs.Resting.Steps.{run_reached, resting_word}
+use Rattle.bleed.specs.Resting.Steps.{resting_word}
 use Rattle.bleed.specs.Resting.StepLaws.{run-reached-at}
 use Rattle.bleed.proofs.resting.resting_word.Goals as goal
 

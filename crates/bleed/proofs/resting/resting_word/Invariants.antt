@@ -1,16 +1,11 @@
 -- `bleed::resting::resting_word` meets its contract. The loop's invariant: the word is that of the resting cells of the pack among the first i.
 -- Assumes nothing.
 use Prim.Native.Nat.{suc, ◌≤◌, ◌-◌}
-use mathlib.Core.Path.{◌≡◌, ◌∙◌}
+use mathlib.Core.Path.{◌≡◌}
 use mathlib.Core.Bool.{◌&&◌}
-use native.Mathlib.Omega.{arith}
 use lib.Dec.{ltb}
-use borrow.Author.Rules.{rules}
-use borrow.Author.Tests.{eq-eqb, ne_eqb}
-use Rattle.laws.specs.Words.{bits_of, bits-none, bits-next, bits-within}
-use Rattle.bleed_wants.specs.Word.{cells_passing}
-use Rattle.bleed.specs.Resting.Steps.{run_reached, resting_word}
-use Rattle.bleed.specs.Resting.StepLaws.{run-reached-at}
+use Rattle.laws.specs.Words.{bits_of}
+use Rattle.bleed.specs.Resting.Steps.{run_reached}
 use Rattle.bleed.proofs.resting.resting_word.Given as goal
 
 abbrev pub invariant-loop-i : goal.invariant-loop-i
