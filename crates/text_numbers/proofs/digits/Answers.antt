@@ -1,11 +1,7 @@
 -- `digits` meets its contract
-use Prim.Native.Nat.{◌-◌, ◌≤◌}
-use mathlib.Core.Path.{◌≡◌, refl, sym, ◌∙◌}
+use mathlib.Core.Path.{refl, sym, ◌∙◌}
 use native.Mathlib.Omega.{arith}
-use lib.ListN.{length, drop}
-use borrow.Author.Rules.{rules}
 use Rattle.text_numbers.proofs.Reading.{low, high, large, turn, over}
-use Rattle.text_numbers.specs.Numbers.{digits_to}
 use Rattle.text_numbers.proofs.digits.Goals as goal
 
 pub loop-i-init : goal.loop-i-init

@@ -1,10 +1,7 @@
 -- `digits` meets its contract. The loop's invariant: the digits that are left, behind the number so far, are read as the whole field is.
 use Prim.Native.Nat.{◌-◌, ◌≤◌}
-use mathlib.Core.Path.{◌≡◌, refl, sym, ◌∙◌}
-use native.Mathlib.Omega.{arith}
+use mathlib.Core.Path.{◌≡◌}
 use lib.ListN.{length, drop}
-use borrow.Author.Rules.{rules}
-use Rattle.text_numbers.proofs.Reading.{low, high, large, turn, over}
 use Rattle.text_numbers.specs.Numbers.{digits_to}
 use Rattle.text_numbers.proofs.digits.Given as goal
 

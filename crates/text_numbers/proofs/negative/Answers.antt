@@ -1,5 +1,4 @@
 -- `negative` meets its contract: no number from 1 to 32768 is negated past the range.
-use borrow.Author.Rules.{rules}
 use Rattle.text_numbers.proofs.Minus.{fall-fits, fall-is}
 use Rattle.text_numbers.proofs.negative.Goals as goal
 

@@ -1,7 +1,6 @@
 -- `number_to` meets its contract: each way out is a case of the definition.
 use mathlib.Core.Path.{sym, ◌∙◌}
 use native.Mathlib.Omega.{arith}
-use borrow.Author.Rules.{rules}
 use Rattle.text_numbers.specs.Canonical.{number-empty, number-single, number-zero, number-other}
 use Rattle.text_numbers.proofs.number_to.Goals as goal
 

@@ -3,7 +3,6 @@ use native.Mathlib.Omega.{arith}
 use lib.ListN.{length}
 use borrow.Author.Tests.{lt-ltb, le-ltb, eq-eqb, ne_eqb}
 use Rattle.text_numbers.specs.Signs.{past_minus}
-use borrow.Author.Rules.{rules}
 use Rattle.text_numbers.proofs.past_minus.Goals as goal
 
 pub returns-then-line-from-eq45 : goal.returns-then-line-from-eq45

@@ -7,7 +7,6 @@ use borrow.Author.Tests.{lt-ltb, le-ltb}
 use Rattle.text_numbers.proofs.Minus.{below-some}
 use Rattle.text_numbers.specs.Signs.{with_sign}
 use Rattle.text_numbers.specs.declared.Signed.TheVariants as signed
-use borrow.Author.Rules.{rules}
 use Rattle.text_numbers.proofs.with_sign.Goals as goal
 
 pub returns-then-v-eq0 : goal.returns-then-v-eq0
@@ -20,7 +19,7 @@ returns-then-v-gt32768 c = rw (c.if-below.true, lt-ltb _ _ c.if-v-gt32768.true)
 
 pub returns-then-below : goal.returns-then-below
 unfolding with_sign
-returns-then-below c = ap signed.Value (to_z-of_z {w = w16} (record { sfits = c.negative.type-inv }) ∙ c.negative.ensures)
+returns-then-below c = ap signed.Value (to_z-of_z {w = w16} (record { sfits = c.negative.type_inv }) ∙ c.negative.ensures)
     ∙ sym (below-some c.args.v (omega arith))
     ∙ sym (rw (c.if-below.true, le-ltb 32768 c.args.v (omega arith)))
 
