@@ -5,25 +5,24 @@ use mir.Syntax.{w32}
 use mir.Facts.{to_z-of_z, to_z_pos}
 use Rattle.units.specs.Levels.{page_level}
 use Rattle.page_words.specs.Ranges.{level_of}
-use borrow.Author.Rules.{rules}
 use Rattle.page_words.proofs.level_of.Goals as goal
 
 pub returns-in-HighestCell : goal.returns-in-HighestCell
 unfolding level_of
-returns-in-HighestCell c = rw c.enum_told-1.given.1 (ap page_level (to_z_pos w32 (let f = c.ranges.x.fits in omega arith)))
+returns-in-HighestCell c = rw c.in-HighestCell.is (ap page_level (to_z_pos w32 (let f = c.ranges.x.fits in omega arith)))
 
 pub returns-in-LowestCell : goal.returns-in-LowestCell
 unfolding level_of
-returns-in-LowestCell c = rw c.enum_told-in-LowestCell-1.given.1 (ap page_level (to_z_pos w32 (let f = c.ranges.x.fits in omega arith)))
+returns-in-LowestCell c = rw c.in-LowestCell.is (ap page_level (to_z_pos w32 (let f = c.ranges.x.fits in omega arith)))
 
 pub returns-in-Current : goal.returns-in-Current
 unfolding level_of
-returns-in-Current c = rw c.enum_told-in-Current-1.given.1 (ap page_level (to_z-of_z {w = w32} (record { sfits = c.signed.type-inv }) ∙ c.signed.ensures))
+returns-in-Current c = rw c.in-Current.is (ap page_level (to_z-of_z {w = w32} (record { sfits = c.signed.type_inv }) ∙ c.signed.ensures))
 
 pub returns-in-Temperature1 : goal.returns-in-Temperature1
 unfolding level_of
-returns-in-Temperature1 c = rw c.enum_told-in-Temperature1-1.given.1 (ap page_level (to_z-of_z {w = w32} (record { sfits = c.signed-in-Temperature1.type-inv }) ∙ c.signed-in-Temperature1.ensures))
+returns-in-Temperature1 c = rw c.in-Temperature1.is (ap page_level (to_z-of_z {w = w32} (record { sfits = c.signed-in-Temperature1.type_inv }) ∙ c.signed-in-Temperature1.ensures))
 
 pub returns-in-Temperature2 : goal.returns-in-Temperature2
 unfolding level_of
-returns-in-Temperature2 c = rw c.enum_told-in-Temperature2-1.given.1 (ap page_level (to_z-of_z {w = w32} (record { sfits = c.signed-in-Temperature2.type-inv }) ∙ c.signed-in-Temperature2.ensures))
+returns-in-Temperature2 c = rw c.in-Temperature2.is (ap page_level (to_z-of_z {w = w32} (record { sfits = c.signed-in-Temperature2.type_inv }) ∙ c.signed-in-Temperature2.ensures))

@@ -1,6 +1,5 @@
 -- `page_words::word_at` meets its contract. Assumes nothing.
 use Rattle.page_words.specs.Ranges.{word_at}
-use borrow.Author.Rules.{rules}
 use Rattle.page_words.proofs.word_at.Goals as goal
 
 pub returns : goal.returns
