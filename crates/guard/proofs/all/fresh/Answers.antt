@@ -1,11 +1,8 @@
 -- `guard::all::fresh` meets its contract: the entries below i are clear with their limits. Assumes nothing.
 use mathlib.Core.Path.{◌≡◌, refl, ◌∙◌}
-use Prim.Native.Nat.{◌-◌, ◌≤◌}
 use Rattle.laws.specs.Each.{each_to}
 use Rattle.protections.specs.Table.{protections}
-use Rattle.guard.specs.Steps.{no_protection, clear_at}
 use Rattle.guard.specs.StepLaws.{clear-next, fresh-is}
-use borrow.Author.Rules.{rules}
 use native.Mathlib.Omega.{arith}
 use Rattle.guard.proofs.all.fresh.Goals as goal
 

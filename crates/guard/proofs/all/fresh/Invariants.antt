@@ -1,12 +1,9 @@
 -- `guard::all::fresh` meets its contract: the entries below i are clear with their limits. Assumes nothing.
-use mathlib.Core.Path.{◌≡◌, refl, ◌∙◌}
+use mathlib.Core.Path.{◌≡◌}
 use Prim.Native.Nat.{◌-◌, ◌≤◌}
 use Rattle.laws.specs.Each.{each_to}
 use Rattle.protections.specs.Table.{protections}
 use Rattle.guard.specs.Steps.{no_protection, clear_at}
-use Rattle.guard.specs.StepLaws.{clear-next, fresh-is}
-use borrow.Author.Rules.{rules}
-use native.Mathlib.Omega.{arith}
 use Rattle.guard.proofs.all.fresh.Given as goal
 
 abbrev pub invariant-loop-i : goal.invariant-loop-i

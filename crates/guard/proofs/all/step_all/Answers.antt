@@ -4,7 +4,6 @@ use native.Mathlib.Omega.{arith}
 use Rattle.protections.specs.Table.{protections}
 use Rattle.guard.specs.Steps.{step_some}
 use Rattle.guard.specs.StepLaws.{step-parts}
-use borrow.Author.Rules.{rules}
 use Rattle.guard.proofs.all.step_all.Goals as goal
 
 pub returns : goal.returns

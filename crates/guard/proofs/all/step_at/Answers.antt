@@ -1,6 +1,5 @@
 -- `guard::all::step_at` meets its contract. Assumes nothing.
 use Rattle.guard.specs.Steps.{step_at}
-use borrow.Author.Rules.{rules}
 use Rattle.guard.proofs.all.step_at.Goals as goal
 
 pub returns : goal.returns

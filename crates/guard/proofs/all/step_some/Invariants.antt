@@ -1,11 +1,9 @@
 -- `guard::all::step_some` meets its contract: the entries from `from` up to i are stepped, the others as they were. Assumes nothing.
 use mathlib.Core.Path.{◌≡◌}
 use Prim.Native.Nat.{◌-◌, ◌≤◌}
-use Rattle.laws.specs.Each.{each_from, each-from-next}
+use Rattle.laws.specs.Each.{each_from}
 use Rattle.protections.specs.Table.{protections}
 use Rattle.guard.specs.Steps.{no_protection, step_at}
-use borrow.Author.Rules.{rules}
-use native.Mathlib.Omega.{arith}
 use Rattle.guard.proofs.all.step_some.Given as goal
 
 abbrev pub invariant-loop-i : goal.invariant-loop-i
