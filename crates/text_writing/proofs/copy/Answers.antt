@@ -1,11 +1,10 @@
 -- `copy` meets its contract
-use Prim.Native.Nat.{ℕ, ◌-◌, ◌≤◌}
+use Prim.Native.Nat.{ℕ}
 use mathlib.Core.Path.{◌≡◌, refl, ◌∙◌, ap}
 use native.Mathlib.Numerals.{add-one}
 use native.Mathlib.Omega.{arith}
 use lib.Seq.{paste, paste-zero, paste-suc}
 use lib.ListN.{length, length-set}
-use borrow.Author.Rules.{rules}
 use Rattle.text_writing.specs.Putting.{copied}
 use Rattle.text_writing.proofs.copy.Goals as goal
 

@@ -1,12 +1,8 @@
 -- `copy` meets its contract. The loop's invariant: the first i bytes of the text stand in the buffer, which is else as it was.
-use Prim.Native.Nat.{ℕ, ◌-◌, ◌≤◌}
-use mathlib.Core.Path.{◌≡◌, refl, ◌∙◌, ap}
-use native.Mathlib.Numerals.{add-one}
-use native.Mathlib.Omega.{arith}
-use lib.Seq.{paste, paste-zero, paste-suc}
-use lib.ListN.{length, length-set}
-use borrow.Author.Rules.{rules}
-use Rattle.text_writing.specs.Putting.{copied}
+use Prim.Native.Nat.{◌-◌, ◌≤◌}
+use mathlib.Core.Path.{◌≡◌}
+use lib.Seq.{paste}
+use lib.ListN.{length}
 use Rattle.text_writing.proofs.copy.Given as goal
 
 abbrev pub invariant-loop-i : goal.invariant-loop-i

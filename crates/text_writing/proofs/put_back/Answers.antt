@@ -1,7 +1,6 @@
 -- `put_back` meets its contract.
 use native.Mathlib.Omega.{arith}
 use Rattle.text_writing.specs.Rows.{field-word, word-room, back-few, back-put}
-use borrow.Author.Rules.{rules}
 use Rattle.text_writing.proofs.put_back.Goals as goal
 
 pub put_field-e-requires : goal.put_field-e-requires

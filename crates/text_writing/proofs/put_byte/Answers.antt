@@ -1,6 +1,5 @@
 -- `put_byte` meets its contract.
 use native.Mathlib.Omega.{arith}
-use borrow.Author.Rules.{rules}
 use Rattle.text_writing.specs.Putting.{put-no}
 use Rattle.text_writing.proofs.put_byte.Goals as goal
 

@@ -1,6 +1,5 @@
 -- `put_byte_in` meets its contract.
 use native.Mathlib.Omega.{arith}
-use borrow.Author.Rules.{rules}
 use Rattle.text_writing.specs.Putting.{put-single}
 use Rattle.text_writing.proofs.put_byte_in.Goals as goal
 

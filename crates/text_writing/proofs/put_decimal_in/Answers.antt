@@ -1,6 +1,5 @@
 -- `put_decimal_in` meets its contract.
 use native.Mathlib.Omega.{arith}
-use borrow.Author.Rules.{rules}
 use Rattle.text_writing.specs.Putting.{put-said}
 use Rattle.text_writing.proofs.put_decimal_in.Goals as goal
 

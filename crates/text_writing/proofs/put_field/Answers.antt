@@ -4,7 +4,6 @@ use native.Mathlib.Omega.{arith}
 use lib.ListN.{length-append}
 use Rattle.text_fields.specs.Decimal.{decimal}
 use Rattle.text_writing.specs.Rows.{put-room, put-field}
-use borrow.Author.Rules.{rules}
 use Rattle.text_writing.proofs.put_field.Goals as goal
 
 pub put_decimal_in-e-requires : goal.put_decimal_in-e-requires

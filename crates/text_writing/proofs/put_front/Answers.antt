@@ -4,8 +4,7 @@ use native.Mathlib.Omega.{arith}
 use lib.ListN.{length-append}
 use Rattle.text_fields.specs.Decimal.{decimal}
 use Rattle.text_writing.specs.Rows.{put-room, put-field, field-long, field-word, word-room, front-few, front-put}
-use borrow.Author.Rules.{rules}
-use Rattle.text_writing.proofs.put-front.Goals as goal
+use Rattle.text_writing.proofs.put_front.Goals as goal
 
 pub put_long_in-d-requires : goal.put_long_in-d-requires
 put_long_in-d-requires c = let a = c.args in
@@ -30,7 +29,8 @@ pub returns : goal.returns
 returns c = let a = c.args in
     let h = c.requires in
     let k = field-long a.first 9 (omega arith) in
-    let p = put-field a.first 9 (omega arith) c.put_long_in-d.ensures c.put_byte_in-e.ensures.put in (
-      front-put a.first a.second a.third (omega arith) (omega arith) (omega arith) h p c.put_field-f.ensures c.put_field.ensures,
-      front-few a.first a.second a.third (omega arith) (omega arith) (omega arith),
-    )
+    let p = put-field a.first 9 (omega arith) c.put_long_in-d.ensures c.put_byte_in-e.ensures.put in
+    record {
+      put = front-put a.first a.second a.third (omega arith) (omega arith) (omega arith) h p c.put_field-f.ensures c.put_field.ensures;
+      third_len_bound = front-few a.first a.second a.third (omega arith) (omega arith) (omega arith);
+    }

@@ -2,7 +2,6 @@
 use native.Mathlib.Omega.{arith}
 use lib.ListN.{length-set}
 use Rattle.text_writing.specs.Putting.{length-thousands, thousands-room, thousands-put}
-use borrow.Author.Rules.{rules}
 use Rattle.text_writing.proofs.put_long_in.Goals as goal
 
 pub put_decimal_in-e-requires : goal.put_decimal_in-e-requires
