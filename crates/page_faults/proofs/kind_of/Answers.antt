@@ -1,7 +1,6 @@
 -- `page_faults::kind_of` meets its contract. Assumes nothing.
 use borrow.Author.Tests.{lt-ltb, le-ltb, eq-eqb, ne_eqb}
 use Rattle.page_faults.specs.Kinds.{kind_of}
-use borrow.Author.Rules.{rules}
 use Rattle.page_faults.proofs.kind_of.Goals as goal
 
 pub returns-then-i-lt16 : goal.returns-then-i-lt16

@@ -1,6 +1,5 @@
 -- `page_faults::level_met` meets its contract. Assumes nothing.
 use Rattle.page_faults.specs.Met.{level_met}
-use borrow.Author.Rules.{rules}
 use Rattle.page_faults.proofs.level_met.Goals as goal
 
 pub returns : goal.returns

@@ -1,6 +1,5 @@
 -- `page_faults::meets` meets its contract. Assumes nothing.
 use Rattle.page_faults.specs.Met.{meets}
-use borrow.Author.Rules.{rules}
 use Rattle.page_faults.proofs.meets.Goals as goal
 
 pub returns : goal.returns

@@ -1,6 +1,5 @@
 -- `page_faults::order_met` meets its contract. Assumes nothing.
 use Rattle.page_faults.specs.Met.{order_met}
-use borrow.Author.Rules.{rules}
 use Rattle.page_faults.proofs.order_met.Goals as goal
 
 pub returns : goal.returns

@@ -3,7 +3,6 @@ use mathlib.Core.Path.{◌≡◌, sym, ◌∙◌}
 use Prim.Native.Nat.{ℕ, suc, ◌≤◌, zero-le}
 use native.Mathlib.Omega.{arith}
 use Rattle.page_faults.specs.Kinds.{part-past}
-use borrow.Author.Rules.{rules}
 use Rattle.page_faults.proofs.part_kind.Goals as goal
 
 past : (p k : ℕ) → k ≤ p → (p ≡ k → ⊥) → suc k ≤ p
