@@ -1,7 +1,7 @@
 -- "There is no other reason to refuse": a page of its length, with its mark and its check byte, each word of which is right by itself (a trip word
 -- with the release word behind it), is accepted. No word is held against any other.
 -- Assumes nothing.
-use Rattle.std.specs.Prelude.{◌≡◌, Bool, false, cond, List, eqb, leb, length, get_or, take}
+use Rattle.std.specs.Prelude.{◌≡◌, Bool, false, List, eqb, length, get_or, take}
 use Rattle.std.proofs.Math.Path.{refl, subst}
 use Rattle.std.proofs.Common.{sym, ap, ◌∙◌, zero-add}
 use Rattle.std.proofs.Math.Bool.{true}
@@ -19,7 +19,7 @@ use Rattle.page_faults.specs.Met.{level_met, order_met, on_row, kind_meets, meet
 use Rattle.page_faults.specs.declared.Layout.{Layout}
 use Rattle.page_faults.specs.declared.Kind.{Kind}
 use Rattle.page_faults.specs.declared.Kind.TheVariants.{Mark, Setting, Reserved, Trip, Release, Limit, Last, Outside}
-use Rattle.refusals.specs.declared.Verdict.TheVariants.{Accepted, Refused}
+use Rattle.refusals.specs.declared.Verdict.TheVariants.{Accepted}
 use Rattle.page_judge.specs.Page.{read_backwards, judged}
 use Rattle.page_judge.specs.Walk.{lowest_from, lowest_word, faults_of, starts, judged-is}
 

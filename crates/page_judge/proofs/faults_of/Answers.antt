@@ -1,6 +1,5 @@
 -- `page_judge::faults_of` meets its contract. Assumes nothing.
 use Rattle.page_judge.specs.Walk.{faults_of}
-use borrow.Author.Rules.{rules}
 use Rattle.page_judge.proofs.faults_of.Goals as goal
 
 pub returns : goal.returns

@@ -4,7 +4,6 @@ use mathlib.Core.Path.{sym, ◌∙◌}
 use borrow.Author.Tests.{eq-eqb, ne_eqb}
 use lib.ListN.{length-take}
 use Rattle.page_judge.specs.Walk.{judged-by, judged-answer}
-use borrow.Author.Rules.{rules}
 use Rattle.page_judge.proofs.judge.Goals as goal
 
 pub returns-then-page-end : goal.returns-then-page-end

@@ -1,8 +1,6 @@
 -- `page_judge::lowest_word` meets its contract
-use mathlib.Core.Path.{◌≡◌, sym, ◌∙◌}
-use Prim.Native.Nat.{◌+◌}
-use Rattle.page_judge.specs.Walk.{lowest_word, lowest_from, starts, goes-on, refuses, ends}
-use borrow.Author.Rules.{rules}
+use mathlib.Core.Path.{sym, ◌∙◌}
+use Rattle.page_judge.specs.Walk.{starts, goes-on, refuses, ends}
 use native.Mathlib.Numerals.{add-one}
 use native.Mathlib.Omega.{arith}
 use Rattle.page_judge.proofs.lowest_word.Goals as goal

@@ -1,10 +1,7 @@
 -- `page_judge::lowest_word` meets its contract. The loop's invariant: the whole walk answers what the rest of it answers. Assumes nothing.
-use mathlib.Core.Path.{◌≡◌, sym, ◌∙◌}
+use mathlib.Core.Path.{◌≡◌}
 use Prim.Native.Nat.{◌+◌}
-use Rattle.page_judge.specs.Walk.{lowest_word, lowest_from, starts, goes-on, refuses, ends}
-use borrow.Author.Rules.{rules}
-use native.Mathlib.Numerals.{add-one}
-use native.Mathlib.Omega.{arith}
+use Rattle.page_judge.specs.Walk.{lowest_word, lowest_from}
 use Rattle.page_judge.proofs.lowest_word.Given as goal
 
 abbrev pub invariant-loop-left : goal.invariant-loop-left
