@@ -1,13 +1,8 @@
 -- `guard_raised::blocks` meets its contract: no entry below i blocks the switch. Assumes nothing.
 use mathlib.Core.Path.{◌≡◌, sym, ◌∙◌}
-use Prim.Native.Nat.{◌-◌, ◌≤◌}
-use mathlib.Core.Bool.{false}
-use lib.ListN.{get_or}
-use Rattle.laws.specs.Words.{any_of, any-none, any-next, any-yes}
+use Rattle.laws.specs.Words.{any-none, any-next, any-yes}
 use Rattle.protections.specs.Table.{protections}
-use Rattle.guard.specs.Steps.{no_protection}
-use Rattle.guard_raised.specs.Words.{blocks_one, blocks_any}
-use borrow.Author.Rules.{rules}
+use Rattle.guard_raised.specs.Words.{blocks_any}
 use native.Mathlib.Omega.{arith}
 use Rattle.guard_raised.proofs.blocks.Goals as goal
 

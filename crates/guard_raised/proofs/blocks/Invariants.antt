@@ -1,14 +1,12 @@
 -- `guard_raised::blocks` meets its contract: no entry below i blocks the switch. Assumes nothing.
-use mathlib.Core.Path.{◌≡◌, sym, ◌∙◌}
+use mathlib.Core.Path.{◌≡◌}
 use Prim.Native.Nat.{◌-◌, ◌≤◌}
 use mathlib.Core.Bool.{false}
 use lib.ListN.{get_or}
-use Rattle.laws.specs.Words.{any_of, any-none, any-next, any-yes}
+use Rattle.laws.specs.Words.{any_of}
 use Rattle.protections.specs.Table.{protections}
 use Rattle.guard.specs.Steps.{no_protection}
-use Rattle.guard_raised.specs.Words.{blocks_one, blocks_any}
-use borrow.Author.Rules.{rules}
-use native.Mathlib.Omega.{arith}
+use Rattle.guard_raised.specs.Words.{blocks_one}
 use Rattle.guard_raised.proofs.blocks.Given as goal
 
 abbrev pub invariant-loop-i : goal.invariant-loop-i

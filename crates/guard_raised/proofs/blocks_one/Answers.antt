@@ -1,6 +1,5 @@
 -- `guard_raised::blocks_one` meets its contract. Assumes nothing.
 use Rattle.guard_raised.specs.Words.{blocks_one}
-use borrow.Author.Rules.{rules}
 use Rattle.guard_raised.proofs.blocks_one.Goals as goal
 
 pub returns-then-is_raised : goal.returns-then-is_raised

@@ -1,10 +1,7 @@
 -- `guard_raised::lowest_blocking` meets its contract: what is left of the search finds what the whole search finds. Assumes nothing.
 use mathlib.Core.Path.{◌≡◌, sym, ap, ◌∙◌}
-use Prim.Native.Nat.{◌-◌, ◌≤◌}
 use Rattle.protections.specs.Table.{protections}
-use Rattle.guard_raised.specs.Words.{blocks_at}
-use Rattle.guard_raised.specs.Lowest.{numbered, lowest_from, lowest_of, search-starts, search-finds, search-goes-on, search-ends}
-use borrow.Author.Rules.{rules}
+use Rattle.guard_raised.specs.Lowest.{numbered, search-starts, search-finds, search-goes-on, search-ends}
 use native.Mathlib.Omega.{arith}
 use Rattle.guard_raised.proofs.lowest_blocking.Goals as goal
 

@@ -1,11 +1,9 @@
 -- `guard_raised::lowest_blocking` meets its contract: what is left of the search finds what the whole search finds. Assumes nothing.
-use mathlib.Core.Path.{◌≡◌, sym, ap, ◌∙◌}
+use mathlib.Core.Path.{◌≡◌}
 use Prim.Native.Nat.{◌-◌, ◌≤◌}
 use Rattle.protections.specs.Table.{protections}
 use Rattle.guard_raised.specs.Words.{blocks_at}
-use Rattle.guard_raised.specs.Lowest.{numbered, lowest_from, lowest_of, search-starts, search-finds, search-goes-on, search-ends}
-use borrow.Author.Rules.{rules}
-use native.Mathlib.Omega.{arith}
+use Rattle.guard_raised.specs.Lowest.{lowest_from, lowest_of}
 use Rattle.guard_raised.proofs.lowest_blocking.Given as goal
 
 abbrev pub invariant-loop-i : goal.invariant-loop-i

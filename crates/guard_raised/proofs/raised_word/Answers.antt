@@ -1,10 +1,8 @@
 -- `guard_raised::raised_word` meets its contract: the word has the bits below i. Assumes nothing.
 use mathlib.Core.Path.{◌≡◌}
-use Prim.Native.Nat.{◌-◌, ◌≤◌}
-use Rattle.laws.specs.Words.{bits_of, bits-none, bits-next}
+use Rattle.laws.specs.Words.{bits-none, bits-next}
 use Rattle.protections.specs.Table.{protections}
-use Rattle.guard_raised.specs.Words.{raised_at, raised_word}
-use borrow.Author.Rules.{rules}
+use Rattle.guard_raised.specs.Words.{raised_word}
 use native.Mathlib.Omega.{arith}
 use Rattle.guard_raised.proofs.raised_word.Goals as goal
 
