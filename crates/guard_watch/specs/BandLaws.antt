@@ -1,18 +1,18 @@
 -- A sample that is inside every band moves no protection.
 -- Assumes nothing.
-use Rattle.std.specs.Prelude.{◌≡◌, refl, Bool, true, false, not, cond, ◌&&◌, List, T, eqb, ℤ, pos, negsuc, ◌<ℤ◌, ◌≤ℤ◌, get_or, set}
+use Rattle.std.specs.Prelude.{◌≡◌, refl, Bool, true, false, not, ◌&&◌, List, T, eqb, ℤ, pos, negsuc, ◌≤ℤ◌, get_or}
 use Rattle.std.proofs.Math.Path.{sym, ap}
 use Rattle.std.proofs.Common.{◌∙◌, true≢false, not-suc-le-zero, eq-or-lt_of_le, le_of_suc-le-suc, add-one, arith, length-set, get_or-set_same, get_or-set_other, ltb-true, le-leb, eqb-true}
 use Rattle.std.proofs.Math.Logic.{⊎_elim}
-use Prim.Native.Nat.{ℕ, zero, suc, ◌+◌, ◌≤◌, ◌<◌}
-use Rattle.std.specs.Int.Signed.{lt_z, le_z, lt_z_yes, le_z_yes, lt_z_no, <ℤ-≤ℤ_trans, clash_ℤ}
+use Prim.Native.Nat.{ℕ, zero, suc, ◌+◌, ◌<◌}
+use Rattle.std.specs.Int.Signed.{lt_z, lt_z_yes, le_z_yes, lt_z_no, <ℤ-≤ℤ_trans, clash_ℤ}
 use Rattle.std.proofs.Math.ListN.{length}
 use Rattle.laws.specs.Tests.{by-test, clash, and-left, and-right}
 use Rattle.protections.specs.declared.Direction.{Direction}
 use Rattle.protections.specs.declared.Direction.TheVariants.{Above, Below}
 use Rattle.protections.specs.declared.Quantity.{Quantity}
 use Rattle.protections.specs.declared.Quantity.TheVariants.{HighestCell, LowestCell, Current, Temperature1, Temperature2}
-use Rattle.guard_watch.specs.Bands.{place_of, inside, nowhere, inside_at, is_calm, is_still, short_of, narrowed_by, narrowed, narrowed_at, anywhere, bands_to}
+use Rattle.guard_watch.specs.Bands.{place_of, inside, nowhere, inside_at, is_calm, is_still, short_of, narrowed_by, narrowed, narrowed_at, bands_to}
 use Rattle.std.proofs.lemmas.Bool.{eqb-false, not-true}
 use Rattle.laws.specs.Each.{each-same}
 use Rattle.laws.specs.Latest.{next_run}

@@ -13,12 +13,10 @@ use Rattle.sample.specs.Cells.{best_of, extremes_of}
 use Rattle.sample.specs.Cases.{below_zero, sampled}
 use Rattle.guard.specs.declared.rule.Alarm.{Alarm}
 use Rattle.guard.specs.declared.rule.Alarm.TheVariants.{Clear, Raised}
-use Rattle.guard.specs.declared.rule.Protection.{Protection}
 use Rattle.guard.specs.Cases.{limited, standing, mixed_limits}
 use Rattle.guard.specs.Steps.{step_one, step_at, step_all}
 use Rattle.guard_raised.specs.Words.{raised_word, blocks_one, blocks_any}
 use Rattle.guard_watch.specs.declared.Band.{Band}
-use Rattle.guard_watch.specs.declared.Guarded.{Guarded}
 use Rattle.guard_watch.specs.Bands.{inside_at, is_calm, nowhere, narrowed, narrowed_at, anywhere, bands_to}
 use Rattle.guard_watch.specs.Watch.{blocked_word, watch_of, guarded_by}
 

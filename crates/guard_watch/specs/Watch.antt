@@ -1,8 +1,8 @@
 -- What is kept of the protections beside them, and the step that keeps it.
 -- Assumes nothing.
-use Rattle.std.specs.Prelude.{◌≡◌, refl, List, ℕ, ◌<◌}
+use Rattle.std.specs.Prelude.{◌≡◌, List, ℕ, ◌<◌}
 use Rattle.std.proofs.Common.{arith}
-use Rattle.laws.specs.Bits.{has_bit, with_bit_if}
+use Rattle.laws.specs.Bits.{has_bit}
 use Rattle.laws.specs.Words.{bits_of, bits-has}
 use Rattle.protections.specs.Table.{protections}
 use Rattle.sample.specs.declared.Sample.{Sample}

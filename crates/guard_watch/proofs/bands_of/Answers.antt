@@ -1,10 +1,8 @@
 -- `guard_watch::bands_of` meets its contract: the bands are those of the protections below i. Assumes nothing.
 use mathlib.Core.Path.{◌≡◌, refl}
-use Prim.Native.Nat.{◌-◌, ◌≤◌}
 use Rattle.protections.specs.Table.{protections}
 use Rattle.guard_watch.specs.Bands.{bands_to}
 use Rattle.guard_watch.specs.BandLaws.{bands-next}
-use borrow.Author.Rules.{rules}
 use native.Mathlib.Omega.{arith}
 use Rattle.guard_watch.proofs.bands_of.Goals as goal
 

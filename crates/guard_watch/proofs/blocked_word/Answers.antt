@@ -1,7 +1,6 @@
 -- `guard_watch::blocked_word` meets its contract. Assumes nothing.
 use Rattle.laws.specs.Words.{bits_of}
 use Rattle.guard_watch.specs.Watch.{blocked_word}
-use borrow.Author.Rules.{rules}
 use Rattle.guard_watch.proofs.blocked_word.Goals as goal
 
 pub returns : goal.returns

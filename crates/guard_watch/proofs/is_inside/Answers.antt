@@ -1,5 +1,4 @@
 -- `guard_watch::is_inside` meets its contract. Assumes nothing.
-use borrow.Author.Rules.{rules}
 use Rattle.guard_watch.proofs.is_inside.Goals as goal
 
 pub returns-then-is_less : goal.returns-then-is_less

@@ -1,6 +1,5 @@
 -- `guard_watch::is_inside_at` meets its contract. Assumes nothing.
 use Rattle.guard_watch.specs.Bands.{inside_at}
-use borrow.Author.Rules.{rules}
 use Rattle.guard_watch.proofs.is_inside_at.Goals as goal
 
 pub returns : goal.returns

@@ -1,6 +1,5 @@
 -- `guard_watch::narrowed_at` meets its contract. Assumes nothing.
 use Rattle.guard_watch.specs.Bands.{narrowed_at}
-use borrow.Author.Rules.{rules}
 use Rattle.guard_watch.proofs.narrowed_at.Goals as goal
 
 pub returns : goal.returns

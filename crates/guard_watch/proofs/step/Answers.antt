@@ -5,7 +5,6 @@ use Rattle.guard_watch.specs.BandLaws.{calm-stays}
 use Rattle.guard.specs.Steps.{step_all}
 use mathlib.Core.Path.{◌≡◌, sym, ◌∙◌}
 use mathlib.Core.Bool.{true}
-use borrow.Author.Rules.{rules}
 use Rattle.guard_watch.proofs.step.Goals as goal
 
 pub returns-then-is_calm : goal.returns-then-is_calm

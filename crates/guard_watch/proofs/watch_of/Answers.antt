@@ -1,6 +1,5 @@
 -- `guard_watch::watch_of` meets its contract. Assumes nothing.
 use Rattle.guard_watch.specs.Watch.{watch_of}
-use borrow.Author.Rules.{rules}
 use Rattle.guard_watch.proofs.watch_of.Goals as goal
 
 pub returns : goal.returns
