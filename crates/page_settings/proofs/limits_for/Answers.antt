@@ -1,7 +1,6 @@
 -- `page_settings::limits_for` meets its contract. Assumes nothing.
 use borrow.Author.Tests.{lt-ltb, le-ltb}
 use Rattle.page_settings.specs.Settings.{limits_for}
-use borrow.Author.Rules.{rules}
 use Rattle.page_settings.proofs.limits_for.Goals as goal
 
 pub limits_from-requires : goal.limits_from-requires

@@ -2,7 +2,6 @@
 use native.Mathlib.Omega.{arith}
 use Rattle.page_judge.specs.Accepted.{accepted-limits}
 use Rattle.page_settings.specs.Settings.{limits_from}
-use borrow.Author.Rules.{rules}
 use Rattle.page_settings.proofs.limits_from.Goals as goal
 
 pub small-n-requires : goal.small-n-requires

@@ -1,10 +1,8 @@
 -- `page_settings::limits_of` meets its contract
 use mathlib.Core.Path.{◌≡◌}
-use Prim.Native.Nat.{◌≤◌, ◌-◌}
 use Rattle.laws.specs.Each.{each_to}
 use Rattle.protections.specs.Table.{protections}
-use Rattle.page_settings.specs.Good.{limits_to, limits-next, limits-are}
-use borrow.Author.Rules.{rules}
+use Rattle.page_settings.specs.Good.{limits-next, limits-are}
 use native.Mathlib.Omega.{arith}
 use Rattle.page_settings.proofs.limits_of.Goals as goal
 

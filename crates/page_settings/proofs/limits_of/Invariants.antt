@@ -1,11 +1,8 @@
 -- `page_settings::limits_of` meets its contract. The loop's invariant: the first p entries are what the page says. Assumes nothing.
 use mathlib.Core.Path.{◌≡◌}
 use Prim.Native.Nat.{◌≤◌, ◌-◌}
-use Rattle.laws.specs.Each.{each_to}
 use Rattle.protections.specs.Table.{protections}
-use Rattle.page_settings.specs.Good.{limits_to, limits-next, limits-are}
-use borrow.Author.Rules.{rules}
-use native.Mathlib.Omega.{arith}
+use Rattle.page_settings.specs.Good.{limits_to}
 use Rattle.page_settings.proofs.limits_of.Given as goal
 
 abbrev pub invariant-loop-p : goal.invariant-loop-p

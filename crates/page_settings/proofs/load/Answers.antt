@@ -2,16 +2,15 @@
 use mathlib.Core.Path.{sym, ◌∙◌}
 use Rattle.page_settings.specs.Good.{loaded-answer}
 use Rattle.page_settings.specs.Settings.{loaded_of}
-use borrow.Author.Rules.{rules}
 use Rattle.page_settings.proofs.load.Goals as goal
 
 pub settings_of-settings-requires : goal.settings_of-settings-requires
-settings_of-settings-requires c = sym c.judge-verdict.ensures.0 ∙ c.enum_told-1.given.1
+settings_of-settings-requires c = sym c.judge-verdict.ensures.0 ∙ c.in-Accepted.is
 
 pub returns-in-Accepted : goal.returns-in-Accepted
 unfolding loaded_of
-returns-in-Accepted c = loaded-answer _ _ (rw (← c.judge-verdict.ensures.0, c.enum_told-1.given.1, c.settings_of-settings.ensures))
+returns-in-Accepted c = loaded-answer _ _ (rw (← c.judge-verdict.ensures.0, c.in-Accepted.is, c.settings_of-settings.ensures))
 
 pub returns-in-Refused : goal.returns-in-Refused
 unfolding loaded_of
-returns-in-Refused c = loaded-answer _ _ (rw (← c.judge-verdict.ensures.0, c.enum_told-in-Refused-1.given.1, c.no_settings-settings.ensures))
+returns-in-Refused c = loaded-answer _ _ (rw (← c.judge-verdict.ensures.0, c.in-Refused.is, c.no_settings-settings.ensures))

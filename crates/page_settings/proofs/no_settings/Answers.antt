@@ -1,6 +1,5 @@
 -- `page_settings::no_settings` meets its contract. Assumes nothing.
 use Rattle.page_settings.specs.Settings.{no_settings}
-use borrow.Author.Rules.{rules}
 use Rattle.page_settings.proofs.no_settings.Goals as goal
 
 pub returns : goal.returns

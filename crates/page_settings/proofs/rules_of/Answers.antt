@@ -4,7 +4,6 @@ use mir.Syntax.{w16}
 use mir.Facts.{to_z-of_z}
 use Rattle.page_judge.specs.Accepted.{accepted-inside}
 use Rattle.page_settings.specs.Settings.{rules_of}
-use borrow.Author.Rules.{rules}
 use Rattle.page_settings.proofs.rules_of.Goals as goal
 
 pub small-n-requires : goal.small-n-requires
@@ -19,8 +18,8 @@ small-r-requires c = let k = accepted-inside _ c.requires 3 (omega arith) in ome
 pub returns : goal.returns
 unfolding rules_of
 returns c = rw (
-  to_z-of_z {w = w16} (record { sfits = c.signed_of-detection.type-inv }),
-  to_z-of_z {w = w16} (record { sfits = c.signed_of-current.type-inv }),
+  to_z-of_z {w = w16} (record { sfits = c.signed_of-detection.type_inv }),
+  to_z-of_z {w = w16} (record { sfits = c.signed_of-current.type_inv }),
   c.signed_of-detection.ensures,
   c.signed_of-current.ensures,
   c.small-n.ensures,

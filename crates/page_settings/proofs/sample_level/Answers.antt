@@ -27,7 +27,7 @@ overflow_add-tenths c = plus-fits c.level_of-z.result.0 (rw c.level_of-z.ensures
 
 pub returns-in-Above : goal.returns-in-Above
 unfolding sample_level
-returns-in-Above c = rw (c.enum_told-1.given.1, ← c.in_degrees.ensures, c.if-in_degrees.true, ← number _ _ c.level_of-z.ensures)
+returns-in-Above c = rw (c.in-Above.is, ← c.in_degrees.ensures, c.if-in_degrees.true, ← number _ _ c.level_of-z.ensures)
     (ap level (plus-is c.level_of-z.result.0 (rw c.level_of-z.ensures (level-small _ _ c.ranges.x.fits)) _ (omega arith)))
 
 pub overflow_mul-tenths-in-Below : goal.overflow_mul-tenths-in-Below
@@ -38,7 +38,7 @@ overflow_add-tenths-in-Below c = plus-fits c.level_of-z.result.0 (rw c.level_of-
 
 pub returns-in-Below : goal.returns-in-Below
 unfolding sample_level
-returns-in-Below c = rw (c.enum_told-in-Below-1.given.1, ← c.in_degrees.ensures, c.if-in_degrees.true, ← number _ _ c.level_of-z.ensures)
+returns-in-Below c = rw (c.in-Below.is, ← c.in_degrees.ensures, c.if-in_degrees.true, ← number _ _ c.level_of-z.ensures)
     (ap level (plus-is c.level_of-z.result.0 (rw c.level_of-z.ensures (level-small _ _ c.ranges.x.fits)) _ (omega arith)))
 
 pub returns : goal.returns

@@ -1,6 +1,5 @@
 -- `page_settings::settings_of` meets its contract. Assumes nothing.
 use Rattle.page_settings.specs.Settings.{settings_of}
-use borrow.Author.Rules.{rules}
 use Rattle.page_settings.proofs.settings_of.Goals as goal
 
 pub returns : goal.returns
