@@ -1,6 +1,5 @@
 -- `crc::check_byte` meets its contract: it goes on from 0. Assumes nothing.
 use Rattle.crc.specs.CheckByte.{check_byte}
-use borrow.Author.Rules.{rules}
 use Rattle.crc.proofs.check_byte.Goals as goal
 
 pub returns : goal.returns

@@ -1,10 +1,7 @@
 -- `crc::go_on` meets its contract
-use Prim.Native.Nat.{◌-◌, ◌≤◌}
-use mathlib.Core.Path.{◌≡◌, sym, ap, ◌∙◌}
+use mathlib.Core.Path.{sym, ap, ◌∙◌}
 use native.Mathlib.Omega.{arith}
-use lib.ListN.{length, take}
 use lib.Seq.{take_all}
-use borrow.Author.Rules.{rules}
 use Rattle.crc.specs.CheckByte.{remainder}
 use Rattle.crc.specs.Vectors.{of-no-more}
 use Rattle.crc.specs.Next.{remainder-next}

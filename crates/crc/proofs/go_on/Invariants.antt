@@ -1,13 +1,8 @@
 -- `crc::go_on` meets its contract. The loop's invariant: `left` is what the first `i` bytes leave. Assumes nothing.
 use Prim.Native.Nat.{◌-◌, ◌≤◌}
-use mathlib.Core.Path.{◌≡◌, sym, ap, ◌∙◌}
-use native.Mathlib.Omega.{arith}
+use mathlib.Core.Path.{◌≡◌}
 use lib.ListN.{length, take}
-use lib.Seq.{take_all}
-use borrow.Author.Rules.{rules}
 use Rattle.crc.specs.CheckByte.{remainder}
-use Rattle.crc.specs.Vectors.{of-no-more}
-use Rattle.crc.specs.Next.{remainder-next}
 use Rattle.crc.proofs.go_on.Given as goal
 
 abbrev pub invariant-loop-i : goal.invariant-loop-i

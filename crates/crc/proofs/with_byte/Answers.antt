@@ -2,7 +2,6 @@
 use mathlib.Core.Path.{ap, ◌∙◌}
 use Rattle.crc.specs.CheckByte.{times_xs, with_byte}
 use Rattle.crc.specs.Halves.{halves-are}
-use borrow.Author.Rules.{rules}
 use Rattle.crc.proofs.with_byte.Goals as goal
 
 pub returns : goal.returns
