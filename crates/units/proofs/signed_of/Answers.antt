@@ -1,5 +1,4 @@
 -- `units::signed_of` meets its contract. Assumes nothing.
-use borrow.Author.Rules.{rules}
 use Rattle.units.proofs.Signs.{low-word, less-fits, high-fits, high-word}
 use Rattle.units.proofs.signed_of.Goals as goal
 
