@@ -6,7 +6,7 @@ use Rattle.std.proofs.Math.Bool.{true}
 use mathlib.Core.List.{List, [], ◌∷◌, ◌++◌}
 use Rattle.std.proofs.Math.Logic.{⊎_elim}
 use Rattle.std.proofs.Math.ListN.{drop}
-use borrow.Author.Tests.{le-ltb, lt-ltb, ltb-true, ltb-false, eqb-true, ne_eqb}
+use borrow.Author.Tests.{le-ltb, lt-ltb, ltb-true, ltb-false, eqb-true}
 use Rattle.laws.specs.Tests.{by-test, clash, and-left, and-right, or-cases}
 use Rattle.text_fields.specs.Finding.{before, lacks, lacks-head, before-at, before-none}
 use Rattle.text_numbers.specs.Numbers.{read_number}

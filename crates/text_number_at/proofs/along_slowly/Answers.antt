@@ -4,7 +4,6 @@ use native.Mathlib.Omega.{arith}
 use Rattle.text_numbers.specs.Numbers.{read_number}
 use Rattle.text_numbers.specs.declared.Number.TheVariants.{Value, Malformed}
 use Rattle.text_number_at.specs.Along.{along-part, along-open, along-read}
-use borrow.Author.Rules.{rules}
 use Rattle.text_number_at.proofs.along_slowly.Goals as goal
 
 pub returns-then-bytes-e : goal.returns-then-bytes-e
@@ -15,10 +14,10 @@ pub returns-in_default : goal.returns-in_default
 returns-in_default c = let a = c.args in
     let h = c.field_end-e.ensures.value in
     along-read a.bytes.now a.from _ h (omega arith) Malformed
-    (sym c.enum_told-1.given.1 ∙ c.read_number-n.ensures ∙ ap read_number (along-part a.bytes.now a.from _ h))
+    (sym c.in_default.is ∙ c.read_number-n.ensures ∙ ap read_number (along-part a.bytes.now a.from _ h))
 
 pub returns : goal.returns
 returns c = let a = c.args in
     let h = c.field_end-e.ensures.value in
-    along-read a.bytes.now a.from _ h (omega arith) (Value c.n-1.given.0.0)
-    (sym c.n-1.given.1 ∙ c.read_number-n.ensures ∙ ap read_number (along-part a.bytes.now a.from _ h))
+    along-read a.bytes.now a.from _ h (omega arith) (Value c.in-Value.v)
+    (sym c.in-Value.is ∙ c.read_number-n.ensures ∙ ap read_number (along-part a.bytes.now a.from _ h))

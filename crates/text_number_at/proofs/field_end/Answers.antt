@@ -1,10 +1,7 @@
 -- `field_end` meets its contract
-use Prim.Native.Nat.{◌-◌, ◌≤◌}
-use mathlib.Core.Path.{◌≡◌, refl, sym, ◌∙◌}
+use mathlib.Core.Path.{refl, sym, ◌∙◌}
 use native.Mathlib.Omega.{arith}
-use lib.ListN.{length}
-use borrow.Author.Rules.{rules}
-use Rattle.text_number_at.specs.Along.{end_along, along-on, along-here, along-past}
+use Rattle.text_number_at.specs.Along.{along-on, along-here, along-past}
 use Rattle.text_number_at.proofs.field_end.Goals as goal
 
 pub loop-e-init : goal.loop-e-init

@@ -1,10 +1,8 @@
 -- `field_end` meets its contract. The loop's invariant: the search from e ends where the search from the start ends.
 use Prim.Native.Nat.{◌-◌, ◌≤◌}
-use mathlib.Core.Path.{◌≡◌, refl, sym, ◌∙◌}
-use native.Mathlib.Omega.{arith}
+use mathlib.Core.Path.{◌≡◌}
 use lib.ListN.{length}
-use borrow.Author.Rules.{rules}
-use Rattle.text_number_at.specs.Along.{end_along, along-on, along-here, along-past}
+use Rattle.text_number_at.specs.Along.{end_along}
 use Rattle.text_number_at.proofs.field_end.Given as goal
 
 abbrev pub invariant-loop-e : goal.invariant-loop-e

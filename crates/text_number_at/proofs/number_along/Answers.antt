@@ -1,10 +1,8 @@
 -- `number_along` meets its contract: the quick way is right where it is taken.
 use mathlib.Core.Path.{sym, ◌∙◌}
-use Prim.Native.Nat.{◌+◌}
 use native.Mathlib.Omega.{arith}
 use Rattle.text_number_at.specs.NumberAt.{four-read}
 use Rattle.text_number_at.specs.Along.{ended-within, along-quick}
-use borrow.Author.Rules.{rules}
 use Rattle.text_number_at.proofs.number_along.Goals as goal
 
 pub four_at-f-requires : goal.four_at-f-requires
@@ -18,4 +16,4 @@ overflow_add-result c = let a = c.args in
 pub returns-then-f : goal.returns-then-f
 returns-then-f c = let a = c.args in
     along-quick a.bytes.now a.from (sym c.four_ended.ensures ∙ c.if-four_ended.true)
-    _ (four-read a.bytes.now a.from (λ i. (c.shared_slice_known-1.given i).fits) _ c.four_at-f.ensures c.if-f.true)
+    _ (four-read a.bytes.now a.from (λ i. (c.type_inv.bytes i).fits) _ c.four_at-f.ensures c.if-f.true)

@@ -1,7 +1,6 @@
 -- `spells_four` meets its contract: it is the definition.
 use mathlib.Core.Path.{refl}
 use Rattle.text_number_at.specs.Four.{spells_four}
-use borrow.Author.Rules.{rules}
 use Rattle.text_number_at.proofs.spells_four.Goals as goal
 
 pub returns : goal.returns
