@@ -1,7 +1,6 @@
 -- `page_compare::put_count` meets its contract. Assumes nothing.
 use native.Mathlib.Omega.{arith}
 use Rattle.page_compare.specs.Report.{Behind, behind-on, number-few, count-put}
-use borrow.Author.Rules.{rules}
 use Rattle.page_compare.proofs.put_count.Goals as goal
 
 pub returns : goal.returns

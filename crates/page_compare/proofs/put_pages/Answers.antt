@@ -1,12 +1,9 @@
 -- `page_compare::put_pages` meets its contract
-use mathlib.Core.Path.{◌≡◌, refl, ap, ◌∙◌}
+use mathlib.Core.Path.{refl, ap, ◌∙◌}
 use mathlib.Core.Bool.{Bool}
-use Prim.Native.Nat.{◌-◌, ◌≤◌}
-use lib.ListN.{length}
 use Rattle.text_writing.specs.Putting.{put-length}
-use Rattle.page_compare.specs.Words.{one_more, room}
-use Rattle.page_compare.specs.Report.{Telling, telling-start, telling-room, telling-on, telling-last, telling-end, pages-not}
-use borrow.Author.Rules.{rules}
+use Rattle.page_compare.specs.Words.{one_more}
+use Rattle.page_compare.specs.Report.{telling-start, telling-room, telling-on, telling-last, telling-end, pages-not}
 use native.Mathlib.Omega.{arith}
 use Rattle.page_compare.proofs.put_pages.Goals as goal
 

@@ -1,13 +1,9 @@
 -- `page_compare::put_pages` meets its contract. The loop keeps: the lines of the first i words stand in the buffer. Assumes nothing.
-use mathlib.Core.Path.{◌≡◌, refl, ap, ◌∙◌}
-use mathlib.Core.Bool.{Bool}
+use mathlib.Core.Path.{◌≡◌}
 use Prim.Native.Nat.{◌-◌, ◌≤◌}
 use lib.ListN.{length}
-use Rattle.text_writing.specs.Putting.{put-length}
-use Rattle.page_compare.specs.Words.{one_more, room}
-use Rattle.page_compare.specs.Report.{Telling, telling-start, telling-room, telling-on, telling-last, telling-end, pages-not}
-use borrow.Author.Rules.{rules}
-use native.Mathlib.Omega.{arith}
+use Rattle.page_compare.specs.Words.{room}
+use Rattle.page_compare.specs.Report.{Telling}
 use Rattle.page_compare.proofs.put_pages.Given as goal
 
 abbrev pub invariant-loop-i : goal.invariant-loop-i

@@ -1,7 +1,6 @@
 -- `page_compare::put_unlike` meets its contract. Assumes nothing.
 use mathlib.Core.Path.{sym, ◌∙◌}
 use Rattle.page_compare.specs.Report.{unlike-put, alike-put}
-use borrow.Author.Rules.{rules}
 use Rattle.page_compare.proofs.put_unlike.Goals as goal
 
 pub returns-then-unlike_at : goal.returns-then-unlike_at

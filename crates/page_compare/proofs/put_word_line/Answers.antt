@@ -1,7 +1,6 @@
 -- `page_compare::put_word_line` meets its contract. Assumes nothing.
 use native.Mathlib.Omega.{arith}
 use Rattle.page_compare.specs.Report.{Behind, behind-room, behind-on, two-few, line-put}
-use borrow.Author.Rules.{rules}
 use Rattle.page_compare.proofs.put_word_line.Goals as goal
 
 pub put_value-g-requires : goal.put_value-g-requires

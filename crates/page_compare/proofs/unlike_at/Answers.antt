@@ -1,6 +1,5 @@
 -- `page_compare::unlike_at` meets its contract. Assumes nothing.
 use Rattle.page_compare.specs.Equal.{unlike-both, unlike-one}
-use borrow.Author.Rules.{rules}
 use Rattle.page_compare.proofs.unlike_at.Goals as goal
 
 pub returns-then-first-second : goal.returns-then-first-second
