@@ -2,7 +2,6 @@
 use mathlib.Core.Path.{sym, ◌∙◌}
 use native.Mathlib.Omega.{arith}
 use Rattle.pack_refusals.specs.SampleLaws.{command-fits, command-over, command-answer}
-use borrow.Author.Rules.{rules}
 use Rattle.pack_refusals.proofs.command_verdict.Goals as goal
 
 pub returns-then-c-le3 : goal.returns-then-c-le3

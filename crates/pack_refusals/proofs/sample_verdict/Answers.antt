@@ -2,7 +2,6 @@
 use mathlib.Core.Path.{sym, ◌∙◌}
 use native.Mathlib.Omega.{arith}
 use Rattle.pack_refusals.specs.SampleLaws.{by-none, by-count, by-cells, by-last, by-answer}
-use borrow.Author.Rules.{rules}
 use Rattle.pack_refusals.proofs.sample_verdict.Goals as goal
 
 pub returns-then-n-eq0 : goal.returns-then-n-eq0

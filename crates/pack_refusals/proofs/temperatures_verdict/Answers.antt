@@ -1,6 +1,5 @@
 -- `pack_refusals::temperatures_verdict` meets its contract. Assumes nothing.
 use Rattle.pack_refusals.specs.Samples.{temperatures_verdict}
-use borrow.Author.Rules.{rules}
 use Rattle.pack_refusals.proofs.temperatures_verdict.Goals as goal
 
 pub returns-then-temperature_fits-2 : goal.returns-then-temperature_fits-2

@@ -1,10 +1,8 @@
 -- `pack_refusals::trim` meets its contract
-use Prim.Native.Nat.{◌-◌, ◌≤◌}
 use mathlib.Core.Path.{◌≡◌, refl}
 use Rattle.sample.specs.Cells.{no_volts}
 use Rattle.laws.specs.Each.{each_to, each-next}
 use Rattle.pack_refusals.specs.Samples.{kept_cell, trimmed}
-use borrow.Author.Rules.{rules}
 use native.Mathlib.Omega.{arith}
 use Rattle.pack_refusals.proofs.trim.Goals as goal
 

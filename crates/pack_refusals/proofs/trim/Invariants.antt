@@ -1,11 +1,9 @@
 -- `pack_refusals::trim` meets its contract. The loop's invariant: the first `i` entries are kept or 0, the others as they were. Assumes nothing.
 use Prim.Native.Nat.{◌-◌, ◌≤◌}
-use mathlib.Core.Path.{◌≡◌, refl}
+use mathlib.Core.Path.{◌≡◌}
 use Rattle.sample.specs.Cells.{no_volts}
-use Rattle.laws.specs.Each.{each_to, each-next}
-use Rattle.pack_refusals.specs.Samples.{kept_cell, trimmed}
-use borrow.Author.Rules.{rules}
-use native.Mathlib.Omega.{arith}
+use Rattle.laws.specs.Each.{each_to}
+use Rattle.pack_refusals.specs.Samples.{kept_cell}
 use Rattle.pack_refusals.proofs.trim.Given as goal
 
 abbrev pub invariant-loop-i : goal.invariant-loop-i
