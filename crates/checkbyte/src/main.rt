@@ -6,7 +6,9 @@
 ghost use Rattle.std.specs.Prelude.{◌≡◌, true, take};
 ghost use Rattle.crc.specs.CheckByte.{remainder};
 
-use libc::STDOUT_FILENO;
+use std::fmt::InlineText;
+use std::fs::File;
+use std::process::ExitCode;
 
 // What a read left: whether nothing failed, whether the file has ended, how many bytes it gave, and the check byte of all bytes so far.
 #[derive(Clone, Copy)]
@@ -18,11 +20,11 @@ struct Taken {
 }
 
 // One read more, and the check byte of the bytes before it goes on over what it gave.
-fn take_part(path: &[u8], fd: i32, check: u8, buf: &mut [u8]) -> Taken
+fn take_part(rt: &HostRuntime, path: &[u8], file: &mut File, check: u8, buf: &mut [u8]) -> Taken
     ensures check_value { result.check ≡ remainder check (take result.have buf.new) }
     ensures have_value { result.ended ≡ true → result.have ≡ 0 }
 {
-    let more = files::read_more(path, fd, true, buf, 0);
+    let more = files::read_more(rt, path, file, true, buf, 0);
     let n = more.have;
     let part = &buf[..n];
     Taken {
@@ -34,14 +36,14 @@ fn take_part(path: &[u8], fd: i32, check: u8, buf: &mut [u8]) -> Taken
 }
 
 // Takes the file part by part: where the answer is ok, the file has ended. What it could not do it has said.
-fn take_all(path: &[u8], fd: i32, buf: &mut [u8]) -> Taken
+fn take_all(rt: &HostRuntime, path: &[u8], file: &mut File, buf: &mut [u8]) -> Taken
     ensures { result.ok ≡ true → result.ended ≡ true }
 {
     let mut check: u8 = 0;
     let mut turns = files::TURNS;
     while 0 < turns {
         turns -= 1;
-        let r = take_part(path, fd, check, buf);
+        let r = take_part(rt, path, file, check, buf);
         if !r.ok {
             return r;
         }
@@ -50,40 +52,45 @@ fn take_all(path: &[u8], fd: i32, buf: &mut [u8]) -> Taken
         }
         check = r.check;
     }
-    files::say(path, b": too long\n");
+    files::say(rt, path, b": too long\n");
     Taken {
         ok: false,
         ended: false,
         have: 0,
-        check: check,
+        check,
     }
 }
 
-fn write_answer(check: u8) {
-    if !io::print_hex(STDOUT_FILENO, check as u64, 2) {
-        os::fail(b"standard output");
-        return;
+fn write_answer(rt: &HostRuntime, check: u8) -> u8 {
+    let line = InlineText::<4>::of(format_args!("{check:02x}\n"));
+    if files::write_text(rt, line.as_str().as_bytes()) {
+        return files::DONE;
     }
-    files::write_text(b"\n");
+    files::FAILED
 }
 
-fn answer(path: &[u8], buf: &mut [u8]) {
-    let fd = files::open(path);
-    if fd < 0 {
-        return;
-    }
-    let r = take_all(path, fd, buf);
+fn answer(rt: &HostRuntime, path: &[u8], buf: &mut [u8]) -> u8 {
+    let Some(mut file) = files::open(rt, path) else {
+        return files::FAILED;
+    };
+    let r = take_all(rt, path, &mut file, buf);
     if r.ok {
-        write_answer(r.check);
+        return write_answer(rt, r.check);
     }
+    files::FAILED
 }
 
-fn main() {
-    let mut path = io::buffer();
-    let name = files::argument(1, b"usage: checkbyte FILE\n", &mut path);
+fn run(rt: &HostRuntime) -> u8 {
+    let mut path = [0u8; 4096];
+    let name = files::argument(rt, 1, b"usage: checkbyte FILE\n", &mut path);
     if name.ok {
         let n = name.n;
-        let mut buf = io::large_buffer();
-        answer(&path[..n], &mut buf);
+        let mut buf = [0u8; 65536];
+        return answer(rt, &path[..n], &mut buf);
     }
+    files::FAILED
+}
+
+fn main(rt: HostRuntime) -> ExitCode {
+    files::end(run(&rt))
 }
