@@ -3,10 +3,6 @@ use Prim.Native.Nat.{◌+◌, ◌≤◌}
 use mathlib.Core.Path.{◌≡◌}
 use lib.ListN.{length}
 use Rattle.text_fields.specs.Decimal.{decimal}
-use Rattle.text_fields.specs.Spelling.{decimal-some}
-use Rattle.text_wide.specs.Places.{wide-few, digits-left, digits-done}
-use borrow.Author.Rules.{rules}
-use native.Mathlib.Omega.{arith}
 use Rattle.text_wide.proofs.places.Given as goal
 
 abbrev pub invariant-loop-rest : goal.invariant-loop-rest

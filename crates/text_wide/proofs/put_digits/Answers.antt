@@ -1,13 +1,10 @@
 -- `text_wide::put_digits` meets its contract
-use Prim.Native.Nat.{◌+◌, ◌/◌, ◌<◌}
-use mathlib.Core.Path.{◌≡◌, refl, ◌∙◌}
+use Prim.Native.Nat.{◌/◌}
+use mathlib.Core.Path.{refl, ◌∙◌}
 use native.Mathlib.Omega.{arith}
-use lib.ListN.{length, length-set}
-use borrow.Author.Rules.{rules}
+use lib.ListN.{length-set}
 use Rattle.text_writing.specs.Putting.{digit-stored, first-stored}
 use Rattle.text_fields.specs.Spelling.{decimal-some, length-tens}
-use Rattle.text_writing.specs.Placing.{written}
-use Rattle.text_fields.specs.Decimal.{decimal}
 use Rattle.text_wide.proofs.put_digits.Goals as goal
 
 pub loop-rest-init : goal.loop-rest-init

@@ -1,11 +1,7 @@
 -- `text_wide::put_digits` meets its contract. The loop's invariant: with the text of the rest written too, the buffer is what it has to become.
-use Prim.Native.Nat.{◌+◌, ◌/◌, ◌<◌}
-use mathlib.Core.Path.{◌≡◌, refl, ◌∙◌}
-use native.Mathlib.Omega.{arith}
-use lib.ListN.{length, length-set}
-use borrow.Author.Rules.{rules}
-use Rattle.text_writing.specs.Putting.{digit-stored, first-stored}
-use Rattle.text_fields.specs.Spelling.{decimal-some, length-tens}
+use Prim.Native.Nat.{◌+◌, ◌<◌}
+use mathlib.Core.Path.{◌≡◌}
+use lib.ListN.{length}
 use Rattle.text_writing.specs.Placing.{written}
 use Rattle.text_fields.specs.Decimal.{decimal}
 use Rattle.text_wide.proofs.put_digits.Given as goal

@@ -1,7 +1,6 @@
 -- `text_wide::put_wide` meets its contract. Assumes nothing.
 use native.Mathlib.Omega.{arith}
 use Rattle.text_wide.specs.Places.{wide-not, wide-put}
-use borrow.Author.Rules.{rules}
 use Rattle.text_wide.proofs.put_wide.Goals as goal
 
 pub returns-then-out-k : goal.returns-then-out-k
