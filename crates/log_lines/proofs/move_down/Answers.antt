@@ -1,10 +1,7 @@
 -- `move_down` meets its contract
-use Prim.Native.Nat.{◌-◌, ◌≤◌, ◌+◌}
 use mathlib.Core.Path.{◌≡◌}
 use native.Mathlib.Omega.{arith}
-use lib.ListN.{length}
-use borrow.Author.Rules.{rules}
-use Rattle.log_lines.specs.Carrying.{Moved, moved-start, moved-on, moved-end, moved-not}
+use Rattle.log_lines.specs.Carrying.{moved-start, moved-on, moved-end, moved-not}
 use Rattle.log_lines.proofs.move_down.Goals as goal
 
 pub returns-then-n-count : goal.returns-then-n-count

@@ -1,10 +1,7 @@
 -- `move_down` meets its contract. The loop's invariant: the first i bytes are those from from on, and the buffer is else as it was.
 use Prim.Native.Nat.{◌-◌, ◌≤◌, ◌+◌}
-use mathlib.Core.Path.{◌≡◌}
-use native.Mathlib.Omega.{arith}
 use lib.ListN.{length}
-use borrow.Author.Rules.{rules}
-use Rattle.log_lines.specs.Carrying.{Moved, moved-start, moved-on, moved-end, moved-not}
+use Rattle.log_lines.specs.Carrying.{Moved}
 use Rattle.log_lines.proofs.move_down.Given as goal
 
 abbrev pub invariant-loop-i : goal.invariant-loop-i

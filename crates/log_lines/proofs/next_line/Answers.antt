@@ -1,6 +1,5 @@
 -- `next_line` meets its contract: each way out is a case of the definition.
 use native.Mathlib.Omega.{arith}
-use borrow.Author.Rules.{rules}
 use Rattle.log_lines.specs.Walking.{next-found, next-not-found}
 use Rattle.log_lines.proofs.next_line.Goals as goal
 
