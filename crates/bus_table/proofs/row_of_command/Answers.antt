@@ -92,4 +92,4 @@ returns-in-71 c = rw c.in-71.is
 
 pub returns-in_default : goal.returns-in_default
 unfolding table
-returns-in_default c = row-none _ c.in_default.rest
+returns-in_default c = row-none _ c.in_default.in_default-own.rest
