@@ -1,10 +1,8 @@
 -- `bus_wire::turn_at` meets its contract: each way out is one of the definition's. Assumes nothing.
 use mathlib.Core.Path.{sym, ap, ◌∙◌}
-use native.Mathlib.Omega.{arith}
 use borrow.Author.Tests.{le-leb, lt-leb, lt-ltb, le-ltb, eq-eqb, ne_eqb}
 use Rattle.crc.specs.CheckByte.{check_byte}
 use Rattle.bus_wire.specs.Records.{is_record, handed_at, five}
-use borrow.Author.Rules.{rules}
 use Rattle.bus_wire.proofs.turn_at.Goals as goal
 
 pub returns-then-n-place : goal.returns-then-n-place
