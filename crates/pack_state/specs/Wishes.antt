@@ -20,9 +20,7 @@ use Rattle.bleed_wants.specs.Steps.{volts_of, wishes, wanting_word}
 use Rattle.bleed.specs.Resting.Steps.{next_cell, next_runs, cell_run_of, run_reached, resting_word}
 use Rattle.bleed.specs.Walk.Steps.{is_cell, chosen_word}
 use Rattle.bleed.specs.Walk.Word.{with_cell_if}
-use Rattle.page_settings.specs.declared.Settings.{Settings}
 use Rattle.page_settings.specs.Cases.{unlike, worked}
-use Rattle.pack_state.specs.declared.Pack.{Pack}
 use Rattle.pack_state.specs.State.{wish_at, fresh_balance, next_balance, want_at, accepted_pack, fresh_pack}
 
 -- Seven cells of this, the second one of that, at a current and two temperatures.

@@ -1,7 +1,6 @@
 -- `pack_state::accept` meets its contract. Assumes nothing.
 use Rattle.guard_raised.specs.Words.{any_raised-word}
 use Rattle.guard_watch.specs.Watch.{watch_of, guarded_by}
-use borrow.Author.Rules.{rules}
 use Rattle.pack_state.proofs.accept.Goals as goal
 
 pub step-guarded-requires : goal.step-guarded-requires

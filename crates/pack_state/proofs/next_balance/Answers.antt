@@ -1,6 +1,5 @@
 -- `pack_state::next_balance` meets its contract. Assumes nothing.
 use Rattle.pack_state.specs.State.{next_balance}
-use borrow.Author.Rules.{rules}
 use Rattle.pack_state.proofs.next_balance.Goals as goal
 
 pub returns : goal.returns

@@ -1,7 +1,6 @@
 -- `pack_state::next_tick` meets its contract. Assumes nothing.
 use borrow.Author.Tests.{lt-ltb, le-ltb}
 use Rattle.pack_state.specs.State.{next_tick}
-use borrow.Author.Rules.{rules}
 use Rattle.pack_state.proofs.next_tick.Goals as goal
 
 pub returns-then-t-lt999999 : goal.returns-then-t-lt999999
