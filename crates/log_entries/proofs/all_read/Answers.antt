@@ -7,26 +7,24 @@ use Rattle.log_entries.proofs.Current.{current-same}
 use Rattle.log_entries.specs.Entry.{offer, if_signed}
 use Rattle.log_entries.specs.InTurn.{cells_of, behind-few, behind-all}
 use Rattle.log_entries.specs.Ahead.{found, found_as}
-use borrow.Author.Rules.{rules}
-use native.Mathlib.Omega.{arith}
-use Rattle.log_entries.proofs.all-read.Goals as goal
+use Rattle.log_entries.proofs.all_read.Goals as goal
 
 pub returns-then-count-lt3 : goal.returns-then-count-lt3
 returns-then-count-lt3 c = let a = c.args in
-    c.nothing_found.ensures ∙ sym (ap (found_as a.end) (behind-few a.below a.count a.t2 c.if-count-lt3.true))
+    c.nothing_found.ensures ∙ sym (ap (found_as a.end) (behind-few a.below a.count a.numbers c.if-count-lt3.true))
 
 pub returns-in_default : goal.returns-in_default
 returns-in_default c = let a = c.args in
     c.nothing_found-in_default.ensures
     ∙ sym (ap (found_as a.end)
-    (behind-all a.below a.count a.t2 c.if-count-lt3.false
-    ∙ ap (λ (s : Signed). if_signed s (λ current. offer current (get_or a.t2 1 0) (get_or a.t2 2 0) (a.count - 3) (cells_of a.t2))) (sym c.with_sign-c.ensures ∙ c.enum_told-1.given.1)))
+    (behind-all a.below a.count a.numbers c.if-count-lt3.false
+    ∙ ap (λ (s : Signed). if_signed s (λ current. offer current (get_or a.numbers 1 0) (get_or a.numbers 2 0) (a.count - 3) (cells_of a.numbers))) (sym c.with_sign-c.ensures ∙ c.in_default.is)))
 
 pub returns : goal.returns
 returns c = let a = c.args in
-    let e = sym c.with_sign-c.ensures ∙ c.c-1.given.1 in
+    let e = sym c.with_sign-c.ensures ∙ c.in-Value.is in
     ap (found a.end)
-    (rw (current-same a.below (get_or a.t2 0 0) c.c-1.given.0.0 e) at c.offered-e.ensures)
+    (rw (current-same a.below (get_or a.numbers 0 0) c.in-Value.current e) at c.offered-e.ensures)
     ∙ sym (ap (found_as a.end)
-    (behind-all a.below a.count a.t2 c.if-count-lt3.false
-    ∙ ap (λ (s : Signed). if_signed s (λ current. offer current (get_or a.t2 1 0) (get_or a.t2 2 0) (a.count - 3) (cells_of a.t2))) e))
+    (behind-all a.below a.count a.numbers c.if-count-lt3.false
+    ∙ ap (λ (s : Signed). if_signed s (λ current. offer current (get_or a.numbers 1 0) (get_or a.numbers 2 0) (a.count - 3) (cells_of a.numbers))) e))

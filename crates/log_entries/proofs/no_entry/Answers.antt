@@ -1,5 +1,4 @@
 -- `log_entries::no_entry` meets its contract. Assumes nothing.
-use borrow.Author.Rules.{rules}
 use Rattle.log_entries.proofs.no_entry.Goals as goal
 
 pub returns : goal.returns

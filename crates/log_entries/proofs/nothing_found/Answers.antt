@@ -1,5 +1,4 @@
 -- `log_entries::nothing_found` meets its contract. Assumes nothing.
-use borrow.Author.Rules.{rules}
 use Rattle.log_entries.proofs.nothing_found.Goals as goal
 
 pub returns : goal.returns

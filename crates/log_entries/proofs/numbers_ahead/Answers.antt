@@ -1,12 +1,9 @@
 -- `log_entries::numbers_ahead` meets its contract
-use mathlib.Core.Path.{◌≡◌, refl, sym, ◌∙◌}
-use mathlib.Core.List.{[]}
-use Prim.Native.Nat.{◌≤◌, ◌+◌, ◌-◌}
-use lib.ListN.{length, length-set}
+use mathlib.Core.Path.{refl, sym, ◌∙◌}
+use lib.ListN.{length-set}
 use Rattle.text_number_at.specs.Along.{along-value, tabbed-within}
-use Rattle.log_entries.specs.InTurn.{cells_of, behind, NoCell}
-use Rattle.log_entries.specs.Ahead.{ahead_behind, ahead-over, ahead-none, ahead-last, ahead-next, ahead-four}
-use borrow.Author.Rules.{rules}
+use Rattle.log_entries.specs.InTurn.{cells_of, behind}
+use Rattle.log_entries.specs.Ahead.{ahead-over, ahead-none, ahead-last, ahead-next, ahead-four}
 use native.Mathlib.Omega.{arith}
 use Rattle.log_entries.proofs.numbers_ahead.Goals as goal
 
@@ -35,7 +32,7 @@ loop-count-preserved-then-f c = let l = c.loop-count in
     let a = c.args in
     let q =
     ahead-four a.bytes.now l.at a.below l.count l.numbers (omega arith) l.invariant.1 l.invariant.2
-    (λ i. (c.shared_slice_known-1.given i).fits) _ c.four_tabbed-f.ensures c.if-f.true in
+    (λ i. (c.type_inv.bytes i).fits) _ c.four_tabbed-f.ensures c.if-f.true in
     (omega arith, rw length-set l.invariant.1, q.1, q.0 ∙ l.invariant.3)
 
 pub returns-in_default : goal.returns-in_default
@@ -43,44 +40,44 @@ unfolding behind
 returns-in_default c = let l = c.loop-count in
     let a = c.args in
     c.nothing_found-in_default.ensures
-    ∙ ahead-none a.bytes.now l.at a.below l.count l.numbers (omega arith) (sym c.number_along-n.ensures ∙ c.enum_told-1.given.1)
+    ∙ ahead-none a.bytes.now l.at a.below l.count l.numbers (omega arith) (sym c.number_along-n.ensures ∙ c.in_default.is)
     ∙ l.invariant.3
 
 pub bounds-bytes-end : goal.bounds-bytes-end
-bounds-bytes-end c = let n = c.n-1.given in
+bounds-bytes-end c = let n = c.in-Value in
     let l = c.loop-count in
     let a = c.args in
-    (along-value a.bytes.now l.at n.0.0 n.0.1.0 (sym c.number_along-n.ensures ∙ n.1)).2
+    (along-value a.bytes.now l.at n.number n.end (sym c.number_along-n.ensures ∙ n.is)).2
 
 pub returns-then-bytes-end-eq10 : goal.returns-then-bytes-end-eq10
 unfolding behind
-returns-then-bytes-end-eq10 c = let n = c.n-1.given in
+returns-then-bytes-end-eq10 c = let n = c.in-Value in
     let l = c.loop-count in
     let a = c.args in
     c.all_read.ensures
-    ∙ ahead-last a.bytes.now l.at a.below l.count l.numbers n.0.0 n.0.1.0 (omega arith) l.invariant.1 l.invariant.2
-    (sym c.number_along-n.ensures ∙ n.1) c.if-bytes-end-eq10.true
+    ∙ ahead-last a.bytes.now l.at a.below l.count l.numbers n.number n.end (omega arith) l.invariant.1 l.invariant.2
+    (sym c.number_along-n.ensures ∙ n.is) c.if-bytes-end-eq10.true
     ∙ l.invariant.3
 
 pub overflow_add-at-in-loop-count : goal.overflow_add-at-in-loop-count
-overflow_add-at-in-loop-count c = let n = c.n-1.given in
+overflow_add-at-in-loop-count c = let n = c.in-Value in
     let l = c.loop-count in
     let a = c.args in
-    let q = along-value a.bytes.now l.at n.0.0 n.0.1.0 (sym c.number_along-n.ensures ∙ n.1) in
+    let q = along-value a.bytes.now l.at n.number n.end (sym c.number_along-n.ensures ∙ n.is) in
     omega (arith, q.2)
 
 pub loop-count-smaller : goal.loop-count-smaller
-loop-count-smaller c = let n = c.n-1.given in
+loop-count-smaller c = let n = c.in-Value in
     let l = c.loop-count in
     let a = c.args in
-    let q = along-value a.bytes.now l.at n.0.0 n.0.1.0 (sym c.number_along-n.ensures ∙ n.1) in
+    let q = along-value a.bytes.now l.at n.number n.end (sym c.number_along-n.ensures ∙ n.is) in
     omega (arith, q.1, q.2)
 
 pub loop-count-preserved : goal.loop-count-preserved
-loop-count-preserved c = let n = c.n-1.given in
+loop-count-preserved c = let n = c.in-Value in
     let l = c.loop-count in
     let a = c.args in
     let q =
-    ahead-next a.bytes.now l.at a.below l.count l.numbers n.0.0 n.0.1.0 (omega arith) l.invariant.1 l.invariant.2
-    (sym c.number_along-n.ensures ∙ n.1) c.if-bytes-end-eq10.false in
+    ahead-next a.bytes.now l.at a.below l.count l.numbers n.number n.end (omega arith) l.invariant.1 l.invariant.2
+    (sym c.number_along-n.ensures ∙ n.is) c.if-bytes-end-eq10.false in
     (omega arith, rw length-set l.invariant.1, q.1, q.0 ∙ l.invariant.3)

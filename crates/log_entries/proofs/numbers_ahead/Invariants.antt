@@ -1,14 +1,11 @@
 -- `log_entries::numbers_ahead` meets its contract. The loop keeps: the fields from `at` on, behind the `count` numbers read so far, are found
 -- to say what all the fields from `from` on say. Assumes nothing.
-use mathlib.Core.Path.{◌≡◌, refl, sym, ◌∙◌}
+use mathlib.Core.Path.{◌≡◌}
 use mathlib.Core.List.{[]}
-use Prim.Native.Nat.{◌≤◌, ◌+◌, ◌-◌}
-use lib.ListN.{length, length-set}
-use Rattle.text_number_at.specs.Along.{along-value, tabbed-within}
-use Rattle.log_entries.specs.InTurn.{cells_of, behind, NoCell}
-use Rattle.log_entries.specs.Ahead.{ahead_behind, ahead-over, ahead-none, ahead-last, ahead-next, ahead-four}
-use borrow.Author.Rules.{rules}
-use native.Mathlib.Omega.{arith}
+use Prim.Native.Nat.{◌≤◌, ◌-◌}
+use lib.ListN.{length}
+use Rattle.log_entries.specs.InTurn.{NoCell}
+use Rattle.log_entries.specs.Ahead.{ahead_behind}
 use Rattle.log_entries.proofs.numbers_ahead.Given as goal
 
 abbrev pub invariant-loop-count : goal.invariant-loop-count

@@ -5,7 +5,6 @@ use native.Mathlib.Omega.{arith}
 use Rattle.log_entries.specs.Entry.{read_command}
 use Rattle.log_entries.specs.Left.{left-none, left-only}
 use Rattle.log_entries.specs.Reading.{command-over}
-use borrow.Author.Rules.{rules}
 use Rattle.log_entries.proofs.read_command.Goals as goal
 
 pub returns-then-n-at : goal.returns-then-n-at
@@ -17,7 +16,7 @@ returns-then-f-n c = c.no_entry-then-f-n.ensures ∙ sym (command-over _ _ _ c.f
 
 pub returns-in_default : goal.returns-in_default
 unfolding read_command
-returns-in_default c = c.no_entry-in_default.ensures ∙ sym (ap read_command (left-only _ _ _ c.field-f.ensures.result_value (omega arith) (omega arith)) ∙ rw (sym c.read_number.ensures ∙ c.enum_told-1.given.1))
+returns-in_default c = c.no_entry-in_default.ensures ∙ sym (ap read_command (left-only _ _ _ c.field-f.ensures.result_value (omega arith) (omega arith)) ∙ rw (sym c.read_number.ensures ∙ c.in_default.is))
 
 pub returns : goal.returns
-returns c = sym (ap read_command (left-only _ _ _ c.field-f.ensures.result_value (omega arith) (omega arith)) ∙ command-read _ _ (sym c.read_number.ensures ∙ c.c-1.given.1) ∙ sym cc)
+returns c = sym (ap read_command (left-only _ _ _ c.field-f.ensures.result_value (omega arith) (omega arith)) ∙ command-read _ _ (sym c.read_number.ensures ∙ c.in-Value.is) ∙ sym cc)

@@ -1,6 +1,6 @@
 -- `log_entries::read_numbers` meets its contract
-use mathlib.Core.Path.{◌≡◌, refl, sym, ap, ◌∙◌}
-use Prim.Native.Nat.{◌≤◌, ◌+◌, ◌-◌}
+use mathlib.Core.Path.{refl, sym, ap, ◌∙◌}
+use Prim.Native.Nat.{◌+◌, ◌-◌}
 use lib.ListN.{length, get_or, length-set}
 use Rattle.text_fields.specs.Fields.{field_at}
 use Rattle.text_fields.specs.Splitting.{field-within}
@@ -9,8 +9,7 @@ use Rattle.text_numbers.specs.declared.Signed.{Signed}
 use Rattle.log_entries.proofs.Current.{current-same}
 use Rattle.log_entries.specs.Entry.{offer, if_signed}
 use Rattle.log_entries.specs.Left.{left, left-none, left-next}
-use Rattle.log_entries.specs.InTurn.{cells_of, read_numbers, behind, NoCell, behind-over, behind-none, behind-next, behind-few, behind-all}
-use borrow.Author.Rules.{rules}
+use Rattle.log_entries.specs.InTurn.{cells_of, behind, behind-over, behind-none, behind-next, behind-few, behind-all}
 use native.Mathlib.Omega.{arith}
 use Rattle.log_entries.proofs.read_numbers.Goals as goal
 
@@ -30,27 +29,27 @@ returns-in_default c = let l = c.loop-at in
     let a = c.args in
     c.no_entry-in_default.ensures
     ∙ sym (ap (behind a.below l.count l.numbers) (left-next a.line.now l.at _ refl (omega arith))
-    ∙ behind-none _ _ _ l.count l.numbers (omega arith) (number-at-none a.line.now l.at (sym c.number_at-n.ensures ∙ c.enum_told-1.given.1)))
+    ∙ behind-none _ _ _ l.count l.numbers (omega arith) (number-at-none a.line.now l.at (sym c.number_at-n.ensures ∙ c.in_default.is)))
     ∙ l.invariant.4
 
 pub overflow_add-at : goal.overflow_add-at
 overflow_add-at c = let l = c.loop-at in
     let a = c.args in
-    let q = number-at-value a.line.now l.at c.n-1.given.0.0 c.n-1.given.0.1.0 (sym c.number_at-n.ensures ∙ c.n-1.given.1) in
+    let q = number-at-value a.line.now l.at c.in-Value.number c.in-Value.end (sym c.number_at-n.ensures ∙ c.in-Value.is) in
     omega (arith, q.1, field-within a.line.now l.at (omega arith))
 
 pub loop-at-smaller : goal.loop-at-smaller
 loop-at-smaller c = let l = c.loop-at in
     let a = c.args in
-    let q = number-at-value a.line.now l.at c.n-1.given.0.0 c.n-1.given.0.1.0 (sym c.number_at-n.ensures ∙ c.n-1.given.1) in
+    let q = number-at-value a.line.now l.at c.in-Value.number c.in-Value.end (sym c.number_at-n.ensures ∙ c.in-Value.is) in
     omega (arith, q.1, field-within a.line.now l.at (omega arith))
 
 pub loop-at-preserved : goal.loop-at-preserved
 loop-at-preserved c = let l = c.loop-at in
     let a = c.args in
-    let q = number-at-value a.line.now l.at c.n-1.given.0.0 c.n-1.given.0.1.0 (sym c.number_at-n.ensures ∙ c.n-1.given.1) in
+    let q = number-at-value a.line.now l.at c.in-Value.number c.in-Value.end (sym c.number_at-n.ensures ∙ c.in-Value.is) in
     let f = field_at a.line.now l.at in
-    let n = behind-next a.below f (left a.line.now (l.at + length f + 1)) l.count c.n-1.given.0.0 l.numbers (omega arith) l.invariant.2 l.invariant.3 q.0 in
+    let n = behind-next a.below f (left a.line.now (l.at + length f + 1)) l.count c.in-Value.number l.numbers (omega arith) l.invariant.2 l.invariant.3 q.0 in
     (omega arith, omega (arith, q.1, field-within a.line.now l.at (omega arith)), rw length-set l.invariant.2, n.1, rw q.1 (sym (ap (behind a.below l.count l.numbers) (left-next a.line.now l.at _ refl (omega arith)) ∙ n.0) ∙ l.invariant.4))
 
 pub returns-then-count-lt3 : goal.returns-then-count-lt3
@@ -64,14 +63,14 @@ returns-in_default-c c = let l = c.loop-at in
     c.no_entry-in_default-c.ensures
     ∙ sym (ap (behind a.below l.count l.numbers) (left-none a.line.now l.at (omega arith))
     ∙ behind-all a.below l.count l.numbers c.if-count-lt3.false
-    ∙ ap (λ (s : Signed). if_signed s (λ current. offer current (get_or l.numbers 1 0) (get_or l.numbers 2 0) (l.count - 3) (cells_of l.numbers))) (sym c.with_sign-c.ensures ∙ c.enum_told-in_default-c-1.given.1))
+    ∙ ap (λ (s : Signed). if_signed s (λ current. offer current (get_or l.numbers 1 0) (get_or l.numbers 2 0) (l.count - 3) (cells_of l.numbers))) (sym c.with_sign-c.ensures ∙ c.in_default-c.is))
     ∙ l.invariant.4
 
 pub returns : goal.returns
 returns c = let l = c.loop-at in
     let a = c.args in
-    let e = sym c.with_sign-c.ensures ∙ c.c-1.given.1 in
-    rw (current-same a.below (get_or l.numbers 0 0) c.c-1.given.0.0 e) at c.offered.ensures
+    let e = sym c.with_sign-c.ensures ∙ c.in-Value-c.is in
+    rw (current-same a.below (get_or l.numbers 0 0) c.in-Value-c.current e) at c.offered.ensures
     ∙ sym (ap (behind a.below l.count l.numbers) (left-none a.line.now l.at (omega arith))
     ∙ behind-all a.below l.count l.numbers c.if-count-lt3.false
     ∙ ap (λ (s : Signed). if_signed s (λ current. offer current (get_or l.numbers 1 0) (get_or l.numbers 2 0) (l.count - 3) (cells_of l.numbers))) e)
