@@ -13,4 +13,4 @@ unfolding prefixes prefix_at name_at list_from decimal table
 prefix-p-requires c = refl
 
 pub returns : goal.returns
-returns c = let both = rw c.prefix-p.ensures (refl, prefix-few c.args.long c.args.i) in record { value = both.0; upper_bound = both.1 }
+returns c = record { value = rw c.prefix-p.ensures; upper_bound = rw c.prefix-p.ensures (prefix-few c.args.long c.args.i) }

@@ -7,3 +7,7 @@ use Rattle.sheet_names.proofs.start_of.Goals as goal
 pub overflow_cast-result : goal.overflow_cast-result
 unfolding start_at
 overflow_cast-result c = omega (arith, starts-few c.args.k c.requires)
+
+pub returns : goal.returns
+unfolding start_at
+returns c = search rules
