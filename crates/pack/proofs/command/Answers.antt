@@ -1,12 +1,11 @@
 -- `pack::command` meets its contract. Assumes nothing.
 use Rattle.pack.specs.Answers.{with_command}
 use Rattle.pack.specs.Calls.{command-accepted, command-refused}
-use borrow.Author.Rules.{rules}
 use Rattle.pack.proofs.command.Goals as goal
 
 pub returns-in-Accepted : goal.returns-in-Accepted
 unfolding with_command
-returns-in-Accepted c = let both = command-accepted _ c.requires _ _ c.command_verdict-verdict.ensures c.enum_told-1.given.1 in record { value = both.0; verdict_value = both.1; kept = both.2 }
+returns-in-Accepted c = let both = command-accepted _ c.requires _ _ c.command_verdict-verdict.ensures c.in-Accepted.is in record { value = both.0; verdict_value = both.1.0; kept = both.1.1 }
 
 pub returns-in-Refused : goal.returns-in-Refused
-returns-in-Refused c = let both = command-refused _ c.requires _ _ _ _ c.command_verdict-verdict.ensures c.enum_told-in-Refused-1.given.1 in record { value = both.0; verdict_value = both.1; kept = both.2 }
+returns-in-Refused c = let both = command-refused _ c.requires _ _ _ _ c.command_verdict-verdict.ensures c.in-Refused.is in record { value = both.0; verdict_value = both.1.0; kept = both.1.1 }

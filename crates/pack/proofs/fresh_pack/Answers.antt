@@ -1,6 +1,5 @@
 -- `pack::fresh_pack` meets its contract. Assumes nothing.
 use Rattle.pack_state.specs.State.{fresh_pack}
-use borrow.Author.Rules.{rules}
 use Rattle.pack.proofs.fresh_pack.Goals as goal
 
 pub returns : goal.returns

@@ -1,15 +1,14 @@
 -- `pack::offer` meets its contract. Assumes nothing.
 use Rattle.pack.specs.Calls.{kept-watched, offer-accepted, offer-refused}
-use borrow.Author.Rules.{rules}
 use Rattle.pack.proofs.offer.Goals as goal
 
 pub accept-next-requires : goal.accept-next-requires
 accept-next-requires c = kept-watched _ c.requires
 
 pub returns-in-Accepted : goal.returns-in-Accepted
-returns-in-Accepted c = let both = offer-accepted _ c.requires _ _ _ _ _ (c.sample_verdict-verdict.ensures.value_2 c.extremes_of-e.ensures) c.enum_told-1.given.1
-    c.trim-t.ensures c.extremes_of-e.ensures c.accept-next.ensures in record { value = both.0; verdict_value = both.1; kept = both.2 }
+returns-in-Accepted c = let both = offer-accepted _ c.requires _ _ _ _ _ (c.sample_verdict-verdict.ensures.value_2 c.extremes_of-e.ensures) c.in-Accepted.is
+    c.trim-t.ensures c.extremes_of-e.ensures c.accept-next.ensures in record { value = both.0; verdict_value = both.1.0; kept = both.1.1 }
 
 pub returns-in-Refused : goal.returns-in-Refused
 returns-in-Refused c = let both = offer-refused _ c.requires _ _ _ _ (c.sample_verdict-verdict.ensures.value_2 c.extremes_of-e.ensures)
-    c.enum_told-in-Refused-1.given.1 in record { value = both.0; verdict_value = both.1; kept = both.2 }
+    c.in-Refused.is in record { value = both.0; verdict_value = both.1.0; kept = both.1.1 }
