@@ -5,7 +5,6 @@ use Rattle.text_fields.specs.Decimal.{decimal}
 use Rattle.protections.specs.Table.{table}
 use Rattle.sheet_names.specs.Names.{name_at, prefix_at}
 use Rattle.sheet_names.specs.Prefixes.{prefixes}
-use borrow.Author.Rules.{rules}
 use Rattle.sheet_names.proofs.begins.Goals as goal
 
 pub prefix-p-requires : goal.prefix-p-requires

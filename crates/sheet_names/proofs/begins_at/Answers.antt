@@ -1,11 +1,9 @@
 -- `sheet_names::begins_at` meets its contract
-use mathlib.Core.Path.{◌≡◌, refl, sym, ◌∙◌}
-use Prim.Native.Nat.{◌+◌, ◌-◌, ◌≤◌}
+use mathlib.Core.Path.{refl, sym, ◌∙◌}
 use native.Mathlib.Nat.{add-zero}
-use lib.ListN.{length, drop, length-drop}
-use Rattle.sheet_names.specs.Begins.{begins, begins-short, begins-on, begins-not, begins-done}
+use lib.ListN.{length-drop}
+use Rattle.sheet_names.specs.Begins.{begins-short, begins-on, begins-not, begins-done}
 use native.Mathlib.Omega.{arith}
-use borrow.Author.Rules.{rules}
 use Rattle.sheet_names.proofs.begins_at.Goals as goal
 
 pub returns-then-n-eq0 : goal.returns-then-n-eq0

@@ -1,11 +1,8 @@
 -- `sheet_names::begins_at` meets its contract. The loop keeps: what is left of the part is compared with what is left of the text. Assumes nothing.
-use mathlib.Core.Path.{◌≡◌, refl, sym, ◌∙◌}
+use mathlib.Core.Path.{◌≡◌}
 use Prim.Native.Nat.{◌+◌, ◌-◌, ◌≤◌}
-use native.Mathlib.Nat.{add-zero}
-use lib.ListN.{length, drop, length-drop}
-use Rattle.sheet_names.specs.Begins.{begins, begins-short, begins-on, begins-not, begins-done}
-use native.Mathlib.Omega.{arith}
-use borrow.Author.Rules.{rules}
+use lib.ListN.{length, drop}
+use Rattle.sheet_names.specs.Begins.{begins}
 use Rattle.sheet_names.proofs.begins_at.Given as goal
 
 abbrev pub invariant-loop-k : goal.invariant-loop-k

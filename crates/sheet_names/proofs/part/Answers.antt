@@ -1,7 +1,5 @@
 -- `sheet_names::part` meets its contract. Assumes nothing.
 use Rattle.sheet_names.specs.Prefixes.{starts-rise}
-use native.Mathlib.Omega.{arith}
-use borrow.Author.Rules.{rules}
 use Rattle.sheet_names.proofs.part.Goals as goal
 
 pub slice_bounds-result-count : goal.slice_bounds-result-count

@@ -2,8 +2,6 @@
 use mathlib.Core.Path.{sym, ap, ◌∙◌}
 use lib.ListN.{length}
 use Rattle.sheet_names.specs.Prefixes.{prefix-is, prefix-past, prefixes-length, row-below}
-use native.Mathlib.Omega.{arith}
-use borrow.Author.Rules.{rules}
 use Rattle.sheet_names.proofs.prefix.Goals as goal
 
 pub returns-then-last_line-i : goal.returns-then-last_line-i

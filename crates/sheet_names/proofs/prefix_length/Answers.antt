@@ -5,7 +5,6 @@ use Rattle.text_fields.specs.Decimal.{decimal}
 use Rattle.protections.specs.Table.{table}
 use Rattle.sheet_names.specs.Names.{name_at, prefix_at}
 use Rattle.sheet_names.specs.Prefixes.{prefixes, prefix-few}
-use borrow.Author.Rules.{rules}
 use Rattle.sheet_names.proofs.prefix_length.Goals as goal
 
 pub prefix-p-requires : goal.prefix-p-requires

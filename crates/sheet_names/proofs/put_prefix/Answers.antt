@@ -6,7 +6,6 @@ use Rattle.protections.specs.Table.{table}
 use Rattle.sheet_names.specs.Names.{name_at, prefix_at}
 use Rattle.sheet_names.specs.Prefixes.{prefixes, prefix-few}
 use native.Mathlib.Omega.{arith}
-use borrow.Author.Rules.{rules}
 use Rattle.sheet_names.proofs.put_prefix.Goals as goal
 
 pub prefix-p-requires : goal.prefix-p-requires

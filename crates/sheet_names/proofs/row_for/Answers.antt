@@ -1,6 +1,5 @@
 -- `sheet_names::row_for` meets its contract. Assumes nothing.
 use borrow.Author.Tests.{lt-ltb, le-ltb}
-use borrow.Author.Rules.{rules}
 use Rattle.sheet_names.proofs.row_for.Goals as goal
 
 pub returns-then-i-lt56 : goal.returns-then-i-lt56
