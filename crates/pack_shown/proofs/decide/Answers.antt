@@ -1,7 +1,6 @@
 -- `pack_shown::decide` meets its contract. Assumes nothing.
 use Rattle.pack_shown.specs.Shown.{decision_of}
 use Rattle.guard_watch.specs.Watch.{watch_of}
-use borrow.Author.Rules.{rules}
 use Rattle.pack_shown.proofs.decide.Goals as goal
 
 pub switches-fets-requires : goal.switches-fets-requires

@@ -1,11 +1,8 @@
 -- `pack_shown::first_mode` meets its contract
-use Prim.Native.Nat.{◌-◌, ◌≤◌}
 use mathlib.Core.Path.{◌≡◌, refl, sym, ap, ◌∙◌}
-use lib.ListN.{drop}
 use Rattle.laws.specs.Bits.{has_bit}
 use Rattle.protections.specs.declared.Row.{Row}
 use Rattle.pack_shown.specs.Shown.{mode_number, mode_order, first_mode, mode-none, mode-found, mode-next}
-use borrow.Author.Rules.{rules}
 use native.Mathlib.Omega.{arith}
 use Rattle.pack_shown.proofs.first_mode.Goals as goal
 

@@ -1,12 +1,9 @@
 -- `pack_shown::first_mode` meets its contract. The loop's invariant: the mode is that of the rest of the order. Assumes nothing.
 use Prim.Native.Nat.{◌-◌, ◌≤◌}
-use mathlib.Core.Path.{◌≡◌, refl, sym, ap, ◌∙◌}
+use mathlib.Core.Path.{◌≡◌}
 use lib.ListN.{drop}
 use Rattle.laws.specs.Bits.{has_bit}
-use Rattle.protections.specs.declared.Row.{Row}
-use Rattle.pack_shown.specs.Shown.{mode_number, mode_order, first_mode, mode-none, mode-found, mode-next}
-use borrow.Author.Rules.{rules}
-use native.Mathlib.Omega.{arith}
+use Rattle.pack_shown.specs.Shown.{mode_order, first_mode}
 use Rattle.pack_shown.proofs.first_mode.Given as goal
 
 abbrev pub invariant-loop-i : goal.invariant-loop-i

@@ -1,6 +1,5 @@
 -- `pack_shown::switch_on` meets its contract. Assumes nothing.
 use Rattle.guard_watch.specs.Watch.{watch_of, blocked_word-has}
-use borrow.Author.Rules.{rules}
 use Rattle.pack_shown.proofs.switch_on.Goals as goal
 
 pub returns-then-has_bit : goal.returns-then-has_bit

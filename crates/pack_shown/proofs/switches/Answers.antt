@@ -1,7 +1,6 @@
 -- `pack_shown::switches` meets its contract. Assumes nothing.
 use Rattle.pack_shown.specs.Shown.{switches_of}
 use native.Mathlib.Omega.{arith}
-use borrow.Author.Rules.{rules}
 use Rattle.pack_shown.proofs.switches.Goals as goal
 
 pub switch_on-requires : goal.switch_on-requires
