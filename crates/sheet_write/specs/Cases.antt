@@ -1,6 +1,6 @@
 -- The worked page's sheet, of 1530 bytes, for buffers of several sizes.
 -- Assumes nothing.
-use Rattle.std.specs.Prelude.{◌≡◌, refl, List, [], ◌∷◌, ◌++◌, map, ℕ, length, drop}
+use Rattle.std.specs.Prelude.{◌≡◌, refl, List, [], ◌∷◌, ◌++◌, map, ℕ, drop}
 use Rattle.laws.specs.Numbered.{list_from}
 use Rattle.crc.specs.CheckByte.{times_x, times_xs, with_byte, remainder, check_byte}
 use Rattle.text_fields.specs.Fields.{line_of}
@@ -11,7 +11,7 @@ use Rattle.page_words.specs.Ranges.{word_at, within, degrees_fit, level_fits, le
 use Rattle.page_faults.specs.Kinds.{kind_of}
 use Rattle.page_faults.specs.Met.{level_met, order_met, on_row, kind_meets, meets}
 use Rattle.page_judge.specs.Page.{refusals, judged}
-use Rattle.page_judge.specs.Worked.{worked_page, put, changed, page_with}
+use Rattle.page_judge.specs.Worked.{worked_page, put, page_with}
 use Rattle.sheet_names.specs.Names.{name_at, line_text, prefix_at}
 use Rattle.sheet_write.specs.Sheet.{value_at, lines_text, sheet_text, sheet_of, wrote_text, text_in, wrote_for, sheet_in}
 use Rattle.sheet_write.specs.declared.Wrote.TheVariants.{Text, Refused}

@@ -1,15 +1,14 @@
 -- What a call of the writer leaves in its buffer, by its answer alone.
 -- Assumes nothing.
 use Rattle.std.proofs.Math.Path.{◌≡◌}
-use Rattle.std.specs.Prelude.{refl, true, false, List, ◌++◌, ℕ, ltb}
-use Rattle.std.proofs.Common.{sym, ap, ◌∙◌, arith}
+use Rattle.std.specs.Prelude.{refl, List, ◌++◌, ℕ, ltb}
+use Rattle.std.proofs.Common.{sym, ap, arith}
 use Rattle.std.proofs.Math.ListN.{length, drop}
 use Rattle.laws.specs.Tests.{by-test}
 use Rattle.page_judge.specs.Page.{judged}
 use Rattle.refusals.specs.declared.Verdict.{Verdict}
 use Rattle.refusals.specs.declared.Verdict.TheVariants as verdict
 use Rattle.sheet_write.specs.Sheet.{sheet_of, wrote_text, text_in, wrote_for, sheet_in}
-use Rattle.sheet_write.specs.declared.Wrote.{Wrote}
 use Rattle.sheet_write.specs.declared.Wrote.TheVariants.{Text, Refused}
 
 -- ---- any text

@@ -2,7 +2,6 @@
 use native.Mathlib.Omega.{arith}
 use lib.ListN.{length-take}
 use Rattle.sheet_write.specs.Lines.{all-short, all-put}
-use borrow.Author.Rules.{rules}
 use Rattle.sheet_write.proofs.put_all.Goals as goal
 
 pub returns-then-out-n : goal.returns-then-out-n

@@ -1,12 +1,8 @@
 -- `sheet_write::put_lines` meets its contract
-use mathlib.Core.Path.{◌≡◌, refl, ◌∙◌}
-use Prim.Native.Nat.{◌+◌, ◌-◌, ◌≤◌}
-use lib.ListN.{length}
+use mathlib.Core.Path.{refl, ◌∙◌}
 use Rattle.text_writing.specs.Putting.{put-length}
-use Rattle.sheet_names.specs.Names.{layout_for, last-few}
-use Rattle.sheet_write.specs.Sheet.{room}
-use Rattle.sheet_write.specs.Lines.{Putting, putting-start, putting-place, putting-on, putting-end}
-use borrow.Author.Rules.{rules}
+use Rattle.sheet_names.specs.Names.{last-few}
+use Rattle.sheet_write.specs.Lines.{putting-start, putting-place, putting-on, putting-end}
 use native.Mathlib.Omega.{arith}
 use Rattle.sheet_write.proofs.put_lines.Goals as goal
 
@@ -37,4 +33,4 @@ pub returns : goal.returns
 returns c = let l = c.loop-i in
     let few = last-few c.args.long in
     let k = putting-end l.invariant.0 l.invariant.3 (omega arith) (omega arith) in
-    let both = (k.0, (k.1, k.2)) in record { value = both.0; out_after = both.1; upper_bound = both.2 }
+    record { value = k.0; out_after = k.1; upper_bound = k.2 }

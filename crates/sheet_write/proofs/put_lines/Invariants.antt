@@ -1,13 +1,10 @@
 -- `sheet_write::put_lines` meets its contract. The loop keeps: the first i lines stand in the buffer. Assumes nothing.
-use mathlib.Core.Path.{◌≡◌, refl, ◌∙◌}
+use mathlib.Core.Path.{◌≡◌}
 use Prim.Native.Nat.{◌+◌, ◌-◌, ◌≤◌}
 use lib.ListN.{length}
-use Rattle.text_writing.specs.Putting.{put-length}
-use Rattle.sheet_names.specs.Names.{layout_for, last-few}
+use Rattle.sheet_names.specs.Names.{layout_for}
 use Rattle.sheet_write.specs.Sheet.{room}
-use Rattle.sheet_write.specs.Lines.{Putting, putting-start, putting-place, putting-on, putting-end}
-use borrow.Author.Rules.{rules}
-use native.Mathlib.Omega.{arith}
+use Rattle.sheet_write.specs.Lines.{Putting}
 use Rattle.sheet_write.proofs.put_lines.Given as goal
 
 abbrev pub invariant-loop-i : goal.invariant-loop-i

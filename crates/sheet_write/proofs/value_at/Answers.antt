@@ -2,7 +2,6 @@
 use mathlib.Core.Path.{sym, ◌∙◌}
 use Rattle.sheet_names.specs.Names.{layout_for}
 use Rattle.sheet_write.specs.Lines.{value-check, value-word}
-use borrow.Author.Rules.{rules}
 use Rattle.sheet_write.proofs.value_at.Goals as goal
 
 pub returns-then-i-last_line : goal.returns-then-i-last_line
