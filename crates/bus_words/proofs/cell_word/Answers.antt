@@ -1,6 +1,5 @@
 -- `bus_words::cell_word` meets its contract. Assumes nothing.
 use Rattle.bus_words.specs.Words.{cell-zero, cell-past, cell-there}
-use borrow.Author.Rules.{rules}
 use Rattle.bus_words.proofs.cell_word.Goals as goal
 
 pub returns-then-number-eq0 : goal.returns-then-number-eq0

@@ -1,6 +1,5 @@
 -- `bus_words::heat_raised` meets its contract. Assumes nothing.
 use Rattle.bus_words.specs.Words.{heat_raised}
-use borrow.Author.Rules.{rules}
 use Rattle.bus_words.proofs.heat_raised.Goals as goal
 
 pub returns-then-has_bit : goal.returns-then-has_bit

@@ -1,5 +1,4 @@
 -- `bus_words::is_bounded` meets its contract. Assumes nothing.
-use borrow.Author.Rules.{rules}
 use borrow.Author.Tests.{le-leb, lt-leb}
 use Rattle.bus_words.specs.Words.{is_bounded}
 use Rattle.bus_words.proofs.is_bounded.Goals as goal

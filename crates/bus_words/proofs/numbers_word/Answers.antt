@@ -1,6 +1,5 @@
 -- `bus_words::numbers_word` meets its contract. Assumes nothing.
 use Rattle.bus_words.specs.Words.{numbers_word}
-use borrow.Author.Rules.{rules}
 use Rattle.bus_words.proofs.numbers_word.Goals as goal
 
 pub returns : goal.returns

@@ -1,10 +1,7 @@
 -- `bus_words::raised_and_switches` meets its contract: the word has the bits below i. Assumes nothing.
 use mathlib.Core.Path.{◌≡◌}
-use Prim.Native.Nat.{◌-◌, ◌≤◌}
-use Rattle.laws.specs.Bits.{has_bit}
-use Rattle.laws.specs.Words.{bits_of, bits-none, bits-next}
-use Rattle.bus_words.specs.Words.{raised_or_on, with_switches}
-use borrow.Author.Rules.{rules}
+use Rattle.laws.specs.Words.{bits-none, bits-next}
+use Rattle.bus_words.specs.Words.{with_switches}
 use native.Mathlib.Omega.{arith}
 use Rattle.bus_words.proofs.raised_and_switches.Goals as goal
 

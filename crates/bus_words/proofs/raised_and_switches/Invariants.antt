@@ -2,10 +2,8 @@
 use mathlib.Core.Path.{◌≡◌}
 use Prim.Native.Nat.{◌-◌, ◌≤◌}
 use Rattle.laws.specs.Bits.{has_bit}
-use Rattle.laws.specs.Words.{bits_of, bits-none, bits-next}
-use Rattle.bus_words.specs.Words.{raised_or_on, with_switches}
-use borrow.Author.Rules.{rules}
-use native.Mathlib.Omega.{arith}
+use Rattle.laws.specs.Words.{bits_of}
+use Rattle.bus_words.specs.Words.{raised_or_on}
 use Rattle.bus_words.proofs.raised_and_switches.Given as goal
 
 abbrev pub invariant-loop-i : goal.invariant-loop-i

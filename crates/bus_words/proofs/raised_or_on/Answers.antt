@@ -1,6 +1,5 @@
 -- `bus_words::raised_or_on` meets its contract. Assumes nothing.
 use borrow.Author.Tests.{lt-ltb, le-ltb}
-use borrow.Author.Rules.{rules}
 use Rattle.bus_words.proofs.raised_or_on.Goals as goal
 
 pub returns-then-i-lt8 : goal.returns-then-i-lt8

@@ -2,19 +2,14 @@
 use Rattle.bus_words.specs.Words.{heat_raised, said_of, status-built}
 use Rattle.laws.specs.Bits.{has_bit}
 use Rattle.bleed_wants.specs.Wants.{is_charging}
-use mathlib.Core.Path.{ap, ap₂, ◌∙◌}
-use mir.Facts.{to_z-of_z}
-use mir.Syntax.{w16}
+use mathlib.Core.Path.{ap, ◌∙◌}
 use borrow.Author.Rules.{rules}
 use Rattle.bus_words.proofs.status.Goals as goal
 
 pub returns : goal.returns
 returns c = let said = said_of c.args.p in
     status-built said.raised said.blocks (is_charging said.detection said.latest.current)
-    (c.is_charging-charging.ensures
-    ∙ ap₂ is_charging
-    (to_z-of_z {w = w16} {z = said.detection} (record { sfits = c.struct_told-1.given.1.1.1.1.1.0.1 }))
-    (to_z-of_z {w = w16} {z = said.latest.current} (record { sfits = c.struct_told-2-1.given.1.1.0.1 })))
+    (rw c.is_charging-charging.ensures (search rules))
     c.blocks-2.ensures
     (c.heat_raised.ensures ∙ ap (λ w. heat_raised (has_bit w)) c.raised_word-raised.ensures)
     c.blocks-3.ensures

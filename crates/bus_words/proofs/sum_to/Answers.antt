@@ -1,9 +1,7 @@
 -- `bus_words::sum_to` meets its contract
 use Rattle.bus_words.specs.Words.{sum_to, sum-none, sum-next}
 use Rattle.units.specs.Cells.{ten-most}
-use Prim.Native.Nat.{◌-◌, ◌*◌, ◌≤◌}
 use mathlib.Core.Path.{◌≡◌, ap, ◌∙◌}
-use borrow.Author.Rules.{rules}
 use native.Mathlib.Omega.{arith}
 use Rattle.bus_words.proofs.sum_to.Goals as goal
 
@@ -14,4 +12,4 @@ pub loop-i-preserved : goal.loop-i-preserved
 loop-i-preserved c = (omega arith, omega arith, omega arith, sum-next _ _ _ c.loop-i.invariant.3)
 
 pub returns : goal.returns
-returns c = let e : c.loop-i.i ≡ c.ten_at_most-n.result = omega arith in c.loop-i.invariant.3 ∙ ap (sum_to c.args.t1) (e ∙ c.ten_at_most-n.ensures)
+returns c = let e : c.loop-i.i ≡ c.ten_at_most-n.result = omega arith in c.loop-i.invariant.3 ∙ ap (sum_to c.args.cells) (e ∙ c.ten_at_most-n.ensures)

@@ -1,10 +1,7 @@
 -- `bus_words::sum_to` meets its contract. The loop's invariant: `sum` is the sum of the first `i` cells. Assumes nothing.
-use Rattle.bus_words.specs.Words.{sum_to, sum-none, sum-next}
-use Rattle.units.specs.Cells.{ten-most}
+use Rattle.bus_words.specs.Words.{sum_to}
 use Prim.Native.Nat.{◌-◌, ◌*◌, ◌≤◌}
-use mathlib.Core.Path.{◌≡◌, ap, ◌∙◌}
-use borrow.Author.Rules.{rules}
-use native.Mathlib.Omega.{arith}
+use mathlib.Core.Path.{◌≡◌}
 use Rattle.bus_words.proofs.sum_to.Given as goal
 
 abbrev pub invariant-loop-i : goal.invariant-loop-i

@@ -1,5 +1,4 @@
 -- `bus_words::unless_blocked` meets its contract. Assumes nothing.
-use borrow.Author.Rules.{rules}
 use Rattle.bus_words.proofs.unless_blocked.Goals as goal
 
 pub returns-then-blocks : goal.returns-then-blocks
