@@ -1,8 +1,8 @@
 -- What a call of the reader leaves in its page buffer, by its answer alone.
 -- Assumes nothing.
 use Rattle.std.proofs.Math.Path.{◌≡◌}
-use Rattle.std.proofs.Common.{sym, ◌∙◌, arith}
-use Rattle.std.specs.Prelude.{true, false, List, ℕ, eqb, length}
+use Rattle.std.proofs.Common.{arith}
+use Rattle.std.specs.Prelude.{List, ℕ, eqb, length}
 use Rattle.laws.specs.Tests.{by-test}
 use Rattle.refusals.specs.declared.Verdict.TheVariants.{Accepted, Refused}
 use Rattle.sheet_read.specs.Reading.{bad_in, page_said, taken_for, taken_in, read_verdict, page_in}

@@ -4,7 +4,6 @@ use Rattle.sheet_names.specs.Names.{layout_for}
 use mathlib.Core.Path.{sym, ◌∙◌}
 use native.Mathlib.Omega.{arith}
 use borrow.Author.Tests.{le-leb}
-use borrow.Author.Rules.{rules}
 use Rattle.sheet_read.proofs.fits.Goals as goal
 
 pub returns-then-i-last_line : goal.returns-then-i-last_line

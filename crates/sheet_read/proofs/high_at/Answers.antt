@@ -3,7 +3,6 @@ use Rattle.sheet_read.specs.Parts.{most-last, high-last, high-other}
 use Rattle.sheet_names.specs.Names.{layout_for}
 use mathlib.Core.Path.{sym, ◌∙◌}
 use native.Mathlib.Omega.{arith}
-use borrow.Author.Rules.{rules}
 use Rattle.sheet_read.proofs.high_at.Goals as goal
 
 pub overflow_cast-result : goal.overflow_cast-result

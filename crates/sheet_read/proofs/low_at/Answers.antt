@@ -2,7 +2,6 @@
 use Rattle.sheet_read.specs.Parts.{low-last, low-other}
 use Rattle.sheet_names.specs.Names.{layout_for}
 use mathlib.Core.Path.{sym, ◌∙◌}
-use borrow.Author.Rules.{rules}
 use Rattle.sheet_read.proofs.low_at.Goals as goal
 
 pub returns-then-i-last_line : goal.returns-then-i-last_line

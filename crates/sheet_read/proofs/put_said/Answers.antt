@@ -4,12 +4,11 @@ use native.Mathlib.Omega.{arith}
 use lib.ListN.{take, length-take}
 use lib.Seq.{length-take-le}
 use Rattle.sheet_read.specs.Unjudged.{sized-other, sized-put}
-use borrow.Author.Rules.{rules}
 use Rattle.sheet_read.proofs.put_said.Goals as goal
 
 pub returns-then-page-size : goal.returns-then-page-size
 returns-then-page-size c = let a = c.args in
-    let both = rw c.refused.ensures (sized-other (take a.size a.draft.now) a.page.now (rw (length-take-le a.size a.draft.now c.requires) c.if-page-size.true)) in record { value = both.0; page_after = both.1 }
+    let both = sized-other (take a.size a.draft.now) a.page.now (rw (length-take-le a.size a.draft.now c.requires) c.if-page-size.true) in record { value = rw c.refused.ensures both.0; page_after = both.1 }
 
 pub slice_bounds-part-end : goal.slice_bounds-part-end
 slice_bounds-part-end c = rw length-take (omega (arith, c.requires))

@@ -1,9 +1,7 @@
 -- `sheet_read::read_line` meets its contract. Assumes nothing.
-use mathlib.Core.Path.{sym, ap, ◌∙◌}
-use native.Mathlib.Omega.{arith}
+use mathlib.Core.Path.{sym, ◌∙◌}
 use Rattle.sheet_names.specs.Names.{layout_for}
 use Rattle.sheet_read.specs.Parts.{line-none, line-is, line-not, line-part}
-use borrow.Author.Rules.{rules}
 use Rattle.sheet_read.proofs.read_line.Goals as goal
 
 pub returns-then-text-e : goal.returns-then-text-e
@@ -13,11 +11,11 @@ returns-then-text-e c = let a = c.args in
 pub returns-in_default : goal.returns-in_default
 returns-in_default c = let a = c.args in
     let f = c.find-e.ensures.value in
-    let n = sym c.enum_told-1.given.1 ∙ c.line_value-n.ensures in
+    let n = sym c.in_default.is ∙ c.line_value-n.ensures in
     line-not (layout_for a.long) a.i a.text.now a.at (rw f at c.if-text-e.false) (rw (line-part (layout_for a.long) a.i a.text.now a.at _ f) at n)
 
 pub returns : goal.returns
 returns c = let a = c.args in
     let f = c.find-e.ensures.value in
-    let n = sym c.n-1.given.1 ∙ c.line_value-n.ensures in
+    let n = sym c.in-Value.is ∙ c.line_value-n.ensures in
     rw f (line-is (layout_for a.long) a.i a.text.now a.at (rw f at c.if-text-e.false) _ (rw (line-part (layout_for a.long) a.i a.text.now a.at _ f) at n))

@@ -1,10 +1,8 @@
 -- `sheet_read::read_lines` meets its contract
-use mathlib.Core.Path.{◌≡◌, refl, sym, ap, ◌∙◌}
-use Prim.Native.Nat.{◌+◌, ◌≤◌}
-use lib.ListN.{length, length-set}
+use mathlib.Core.Path.{refl, sym, ◌∙◌}
+use lib.ListN.{length-set}
 use Rattle.sheet_names.specs.Names.{layout_for, last-few}
-use Rattle.sheet_read.specs.Steps.{value-fits, line-said, Going, going-start, going-on, going-bad, going-extra, going-end}
-use borrow.Author.Rules.{rules}
+use Rattle.sheet_read.specs.Steps.{value-fits, line-said, going-start, going-on, going-bad, going-extra, going-end}
 use native.Mathlib.Omega.{arith}
 use Rattle.sheet_read.proofs.read_lines.Goals as goal
 
@@ -20,19 +18,19 @@ shape_of-draft-in_default c = c.loop-left.invariant.4
 
 pub returns-in_default : goal.returns-in_default
 returns-in_default c = let l = c.loop-left in
-    record { value = going-bad l.invariant.0 (omega arith) (sym c.enum_told-1.given.1 ∙ c.read_line-got.ensures); draft_after = λ e. absurd (omega arith) }
+    record { value = going-bad l.invariant.0 (omega arith) (sym c.in_default.is ∙ c.read_line-got.ensures); draft_after = λ e. absurd (omega arith) }
 
 pub high_at-requires : goal.high_at-requires
 high_at-requires c = let a = c.args in
     let l = c.loop-left in
-    value-fits (layout_for a.long) l.i _ _ (line-said (layout_for a.long) l.i a.text.now l.at _ _ (sym c.got-1.given.1 ∙ c.read_line-got.ensures)).number
+    value-fits (layout_for a.long) l.i _ _ (line-said (layout_for a.long) l.i a.text.now l.at _ _ (sym c.in-Value.is ∙ c.read_line-got.ensures)).number
 
 pub bounds-draft-place-in-loop-left : goal.bounds-draft-place-in-loop-left
 bounds-draft-place-in-loop-left c = rw length-set (omega (arith, c.loop-left.invariant.3))
 
 pub loop-left-preserved : goal.loop-left-preserved
 loop-left-preserved c = let l = c.loop-left in
-    let q = sym c.got-1.given.1 ∙ c.read_line-got.ensures in (
+    let q = sym c.in-Value.is ∙ c.read_line-got.ensures in (
       going-on l.invariant.0 (omega arith) (omega arith) _ _ _ _ q c.low_at.ensures c.high_at.ensures,
       omega arith,
       omega arith,

@@ -1,11 +1,9 @@
 -- `sheet_read::read_lines` meets its contract. The loop keeps: what is left of the sheet says the rest of what the whole says. Assumes nothing.
-use mathlib.Core.Path.{◌≡◌, refl, sym, ap, ◌∙◌}
+use mathlib.Core.Path.{◌≡◌}
 use Prim.Native.Nat.{◌+◌, ◌≤◌}
-use lib.ListN.{length, length-set}
-use Rattle.sheet_names.specs.Names.{layout_for, last-few}
-use Rattle.sheet_read.specs.Steps.{value-fits, line-said, Going, going-start, going-on, going-bad, going-extra, going-end}
-use borrow.Author.Rules.{rules}
-use native.Mathlib.Omega.{arith}
+use lib.ListN.{length}
+use Rattle.sheet_names.specs.Names.{layout_for}
+use Rattle.sheet_read.specs.Steps.{Going}
 use Rattle.sheet_read.proofs.read_lines.Given as goal
 
 abbrev pub invariant-loop-left : goal.invariant-loop-left

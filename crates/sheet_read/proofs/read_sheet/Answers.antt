@@ -2,7 +2,6 @@
 use native.Mathlib.Omega.{arith}
 use Rattle.sheet_names.specs.Names.{layout_for, last-few}
 use Rattle.sheet_read.specs.Parts.{sheet-bad, sheet-taken, size-part}
-use borrow.Author.Rules.{rules}
 use Rattle.sheet_read.proofs.read_sheet.Goals as goal
 
 pub returns-then-bad-ne0 : goal.returns-then-bad-ne0

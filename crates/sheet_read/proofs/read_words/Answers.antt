@@ -3,7 +3,6 @@ use native.Mathlib.Omega.{arith}
 use Rattle.sheet_names.specs.Names.{layout_for, last-few}
 use Rattle.sheet_read.specs.Parts.{size-part}
 use Rattle.sheet_read.specs.Unjudged.{words-bad, words-put}
-use borrow.Author.Rules.{rules}
 use Rattle.sheet_read.proofs.read_words.Goals as goal
 
 pub returns-then-bad-ne0 : goal.returns-then-bad-ne0
