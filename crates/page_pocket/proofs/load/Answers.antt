@@ -2,12 +2,11 @@
 use mathlib.Core.Path.{ap}
 use Rattle.pack.specs.declared.Answered.{Answered}
 use Rattle.page_pocket.specs.Profile.{load-accepted, load-refused}
-use borrow.Author.Rules.{rules}
 use Rattle.page_pocket.proofs.load.Goals as goal
 
 pub returns-in-Accepted : goal.returns-in-Accepted
-returns-in-Accepted c = let both = load-accepted _ _ _ c.judge-verdict.ensures c.enum_told-1.given.1 c.load.ensures.value in record { value = both.0; verdict_value = both.1; kept = both.2 }
+returns-in-Accepted c = let both = load-accepted _ _ _ c.judge-verdict.ensures c.in-Accepted.is c.load.ensures.value in record { value = both.0; verdict_value = both.1.0; kept = both.1.1 }
 
 pub returns-in-Refused : goal.returns-in-Refused
-returns-in-Refused c = let both = load-refused _ _ _ _ _ c.judge-verdict.ensures c.enum_told-in-Refused-1.given.1
-    (ap (λ (a : Answered). a.pack) c.load-none.ensures.value) in record { value = both.0; verdict_value = both.1; kept = both.2 }
+returns-in-Refused c = let both = load-refused _ _ _ _ _ c.judge-verdict.ensures c.in-Refused.is
+    (ap (λ (a : Answered). a.pack) c.load-none.ensures.value) in record { value = both.0; verdict_value = both.1.0; kept = both.1.1 }

@@ -1,7 +1,6 @@
 -- `page_pocket::pocket_fault` meets its contract. Assumes nothing.
 use borrow.Author.Tests.{eq-eqb, ne_eqb}
 use Rattle.page_pocket.specs.Pocket.{fault-is}
-use borrow.Author.Rules.{rules}
 use Rattle.page_pocket.proofs.pocket_fault.Goals as goal
 
 pub returns-then-page-ne128 : goal.returns-then-page-ne128

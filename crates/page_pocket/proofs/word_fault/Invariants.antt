@@ -1,9 +1,7 @@
 -- `page_pocket::word_fault` meets its contract. The loop's invariant: the whole walk answers what the rest of it answers. Assumes nothing.
-use mathlib.Core.Path.{◌≡◌, refl, sym, ap, ◌∙◌}
-use Prim.Native.Nat.{◌+◌, ◌-◌, ◌≤◌}
-use Rattle.page_pocket.specs.Pocket.{word_fault, fault_from, met-at, fault-on, fault-refuses, fault-ends}
-use borrow.Author.Rules.{rules}
-use native.Mathlib.Omega.{arith}
+use mathlib.Core.Path.{◌≡◌}
+use Prim.Native.Nat.{◌-◌, ◌≤◌}
+use Rattle.page_pocket.specs.Pocket.{word_fault, fault_from}
 use Rattle.page_pocket.proofs.word_fault.Given as goal
 
 abbrev pub invariant-loop-i : goal.invariant-loop-i
