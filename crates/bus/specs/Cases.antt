@@ -11,7 +11,7 @@ use Rattle.sample.specs.Cases.{below_zero, sampled}
 use Rattle.pack_state.specs.Past.{past}
 use Rattle.pack_state.specs.State.{state_after, fresh_pack}
 use Rattle.bus_table.specs.Table.{table, row_of_command}
-use Rattle.bus_words.specs.Words.{sent_word, pack_word, cell_word, word_after}
+use Rattle.bus_words.specs.Words.{sent_word, cell_word, word_after}
 use Rattle.bus.specs.Replies.{not_in_table, cell_above, reply_refusals, answer_for, answer_after, buffer_after, frame_of, bytes_of, answer_of_reply, refusals_of, answer_to, buffer_of}
 
 -- ---- (*) "Current -2 is sent as FE FF; -32768 as 00 80", with their check bytes

@@ -1,7 +1,6 @@
 -- `bus::answer::answer_to` meets its contract. Assumes nothing.
 use borrow.Author.Tests.{eq-eqb, ne_eqb}
 use Rattle.bus.specs.Replies.{answer_to, answer_for, reply_refusals, answer-given}
-use borrow.Author.Rules.{rules}
 use Rattle.bus.proofs.answer.answer_to.Goals as goal
 
 pub returns-then-not_in_table : goal.returns-then-not_in_table

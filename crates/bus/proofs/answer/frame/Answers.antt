@@ -1,6 +1,5 @@
 -- `bus::answer::frame` meets its contract. Assumes nothing.
 use Rattle.bus.specs.Replies.{frame_of}
-use borrow.Author.Rules.{rules}
 use Rattle.bus.proofs.answer.frame.Goals as goal
 
 pub returns : goal.returns

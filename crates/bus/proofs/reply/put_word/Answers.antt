@@ -1,6 +1,5 @@
 -- `bus::reply::put_word` meets its contract. Assumes nothing.
 use Rattle.bus.specs.Replies.{word-sent, word-not}
-use borrow.Author.Rules.{rules}
 use Rattle.bus.proofs.reply.put_word.Goals as goal
 
 pub returns-then-out-ne3 : goal.returns-then-out-ne3

@@ -1,7 +1,6 @@
 -- `bus::reply::reply` meets its contract. Assumes nothing.
 use Rattle.bus.specs.Replies.{answer_to, buffer_of, sent-room}
 use mathlib.Core.Path.{sym, ◌∙◌}
-use borrow.Author.Rules.{rules}
 use Rattle.bus.proofs.reply.reply.Goals as goal
 
 pub sent_word-word-requires : goal.sent_word-word-requires
@@ -13,8 +12,8 @@ put-requires c = λ e. sent-room _ _ _ _ (sym c.answer_to-answer.ensures.0 ∙ e
 
 pub returns : goal.returns
 unfolding buffer_of
-returns c = (
-  c.answer_to-answer.ensures,
-  rw (← c.answer_to-answer.ensures.0, ← c.row_of_command.ensures, ← c.sent_word-word.ensures, ← c.frame-f.ensures)
-      c.put.ensures,
-)
+returns c = record {
+  value = c.answer_to-answer.ensures;
+  out_after = rw (← c.answer_to-answer.ensures.0, ← c.row_of_command.ensures, ← c.sent_word-word.ensures, ← c.frame-f.ensures)
+      c.put.ensures;
+}
