@@ -4,7 +4,7 @@
 
 #![tactic(auto)]
 
-ghost use Rattle.std.specs.Prelude.{◌≡◌, true, ◌≤◌, length};
+ghost use Rattle.std.specs.Prelude.{◌≡◌, ◌≢◌, true, ◌≤◌, length};
 ghost use Rattle.std.specs.Process.{exit_status};
 
 use std::env::{Env, FillError};
@@ -251,6 +251,16 @@ pub fn write_text(rt: &HostRuntime, text: &[u8]) -> bool {
             false
         }
     }
+}
+
+// Writes the last text to standard output, and answers the status to end with: the one that is given, where that went well.
+pub fn write_last(rt: &HostRuntime, text: &[u8], status: u8) -> u8
+    ensures { result ≢ FAILED → result ≡ status }
+{
+    if write_text(rt, text) {
+        return status;
+    }
+    FAILED
 }
 
 // Reads the page to its end, as far as its buffer goes, and the first bytes of the log.

@@ -7,38 +7,45 @@
 ghost use Rattle.pack.specs.Kept.{Kept};
 
 use pack_state::Pack;
+use std::process::ExitCode;
 
 // Writes the 256 lines at once.
-fn write_words(p: Pack, out: &mut [u8])
+fn write_words(rt: &HostRuntime, p: Pack, out: &mut [u8]) -> u8
     requires { Kept p }
 {
     let n = bus_lines::put_words(p, out);
     let text = &out[..n];
-    files::write_text(text);
+    files::write_last(rt, text, files::DONE)
 }
 
-fn run(page_name: &[u8], log_name: &[u8]) {
-    let mut page = io::buffer();
-    let mut buf = io::large_buffer();
-    let mut out = io::buffer();
-    let r = log_files::pack_behind(page_name, log_name, &mut page, &mut buf, &mut out);
-    if r.ok {
-        let p = r.pack;
-        write_words(p, &mut out);
+fn words(rt: &HostRuntime, page_name: &[u8], log_name: &[u8]) -> u8 {
+    let mut page = [0u8; 4096];
+    let mut buf = [0u8; 65536];
+    let mut out = [0u8; 4096];
+    let r = log_files::pack_behind(rt, page_name, log_name, &mut page, &mut buf, &mut out);
+    if !r.ok {
+        return r.status;
     }
+    let p = r.pack;
+    write_words(rt, p, &mut out)
 }
 
-fn main() {
-    let mut page_name = io::buffer();
-    let page = files::argument(1, b"usage: words PAGE LOG\n", &mut page_name);
+fn run(rt: &HostRuntime) -> u8 {
+    let mut page_name = [0u8; 4096];
+    let page = files::argument(rt, 1, b"usage: words PAGE LOG\n", &mut page_name);
     if !page.ok {
-        return;
+        return files::FAILED;
     }
-    let mut log_name = io::buffer();
-    let log = files::argument(2, b"usage: words PAGE LOG\n", &mut log_name);
-    if log.ok {
-        let n = page.n;
-        let m = log.n;
-        run(&page_name[..n], &log_name[..m]);
+    let mut log_name = [0u8; 4096];
+    let log = files::argument(rt, 2, b"usage: words PAGE LOG\n", &mut log_name);
+    if !log.ok {
+        return files::FAILED;
     }
+    let n = page.n;
+    let m = log.n;
+    words(rt, &page_name[..n], &log_name[..m])
+}
+
+fn main(rt: HostRuntime) -> ExitCode {
+    files::end(run(&rt))
 }
