@@ -2,7 +2,6 @@
 use native.Mathlib.Omega.{arith}
 use lib.ListN.{length-take}
 use Rattle.sheet_seal.specs.Sealed.{page-sealed}
-use borrow.Author.Rules.{rules}
 use Rattle.sheet_seal.proofs.seal_page.Goals as goal
 
 pub slice_bounds-before-end-2 : goal.slice_bounds-before-end-2

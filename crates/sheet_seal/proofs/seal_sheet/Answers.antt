@@ -1,7 +1,6 @@
 -- `sheet_seal::seal_sheet` meets its contract. Assumes nothing.
 use mathlib.Core.Path.{sym, ◌∙◌}
 use Rattle.sheet_seal.specs.Sealed.{length-long, length-short}
-use borrow.Author.Rules.{rules}
 use Rattle.sheet_seal.proofs.seal_sheet.Goals as goal
 
 pub seal_with-requires : goal.seal_with-requires
