@@ -1,7 +1,6 @@
 -- `bus_lines::digit` meets its contract. Assumes nothing.
 use Rattle.bus_lines.specs.Lines.{digit-low, digit-high}
 use native.Mathlib.Omega.{arith}
-use borrow.Author.Rules.{rules}
 use Rattle.bus_lines.proofs.digit.Goals as goal
 
 pub returns-then-v-lt10 : goal.returns-then-v-lt10

@@ -1,6 +1,5 @@
 -- `bus_lines::put_command` meets its contract. Assumes nothing.
 use Rattle.bus_lines.specs.Lines.{command-put}
-use borrow.Author.Rules.{rules}
 use Rattle.bus_lines.proofs.put_command.Goals as goal
 
 pub returns : goal.returns

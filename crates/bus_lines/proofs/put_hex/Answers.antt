@@ -1,6 +1,5 @@
 -- `bus_lines::put_hex` meets its contract. Assumes nothing.
 use Rattle.bus_lines.specs.Lines.{hex-put}
-use borrow.Author.Rules.{rules}
 use Rattle.bus_lines.proofs.put_hex.Goals as goal
 
 pub returns : goal.returns

@@ -1,7 +1,6 @@
 -- `bus_lines::put_line` meets its contract. Assumes nothing.
 use Rattle.bus_words.specs.Bounds.{kept-bounded}
 use Rattle.bus_lines.specs.Lines.{word-put}
-use borrow.Author.Rules.{rules}
 use Rattle.bus_lines.proofs.put_line.Goals as goal
 
 pub reply-answer-requires : goal.reply-answer-requires

@@ -1,7 +1,6 @@
 -- `bus_lines::put_refused` meets its contract. Assumes nothing.
 use Rattle.bus_lines.specs.Lines.{refused-length, refused-put}
 use native.Mathlib.Omega.{arith}
-use borrow.Author.Rules.{rules}
 use Rattle.bus_lines.proofs.put_refused.Goals as goal
 
 pub returns : goal.returns

@@ -1,7 +1,6 @@
 -- `bus_lines::put_reply` meets its contract. Assumes nothing.
 use Rattle.bus_lines.specs.Lines.{command-length, room-behind, line-short, line-put}
 use native.Mathlib.Omega.{arith}
-use borrow.Author.Rules.{rules}
 use Rattle.bus_lines.proofs.put_reply.Goals as goal
 
 pub returns-then-out-lt-LINE : goal.returns-then-out-lt-LINE

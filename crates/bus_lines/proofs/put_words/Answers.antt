@@ -1,12 +1,9 @@
 -- `bus_lines::put_words` meets its contract
 use mathlib.Core.Path.{◌≡◌, refl, ◌∙◌}
-use Prim.Native.Nat.{◌-◌, ◌%◌, ◌≤◌}
-use lib.ListN.{length}
+use Prim.Native.Nat.{◌%◌}
 use Rattle.text_writing.specs.Putting.{put-length}
-use Rattle.pack.specs.Kept.{Kept}
-use Rattle.bus_lines.specs.Lines.{room, word_line, Putting, putting-start, putting-place, putting-on, putting-end, roomed-not}
+use Rattle.bus_lines.specs.Lines.{putting-start, putting-place, putting-on, putting-end, roomed-not}
 use native.Mathlib.Omega.{arith}
-use borrow.Author.Rules.{rules}
 use Rattle.bus_lines.proofs.put_words.Goals as goal
 
 pub returns-then-out-lt-ROOM : goal.returns-then-out-lt-ROOM

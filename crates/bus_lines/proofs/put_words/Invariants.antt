@@ -1,12 +1,9 @@
 -- `bus_lines::put_words` meets its contract. The loop keeps: the lines of the first c commands stand in the buffer. Assumes nothing.
-use mathlib.Core.Path.{◌≡◌, refl, ◌∙◌}
-use Prim.Native.Nat.{◌-◌, ◌%◌, ◌≤◌}
+use mathlib.Core.Path.{◌≡◌}
+use Prim.Native.Nat.{◌-◌, ◌≤◌}
 use lib.ListN.{length}
-use Rattle.text_writing.specs.Putting.{put-length}
 use Rattle.pack.specs.Kept.{Kept}
-use Rattle.bus_lines.specs.Lines.{room, word_line, Putting, putting-start, putting-place, putting-on, putting-end, roomed-not}
-use native.Mathlib.Omega.{arith}
-use borrow.Author.Rules.{rules}
+use Rattle.bus_lines.specs.Lines.{room, word_line, Putting}
 use Rattle.bus_lines.proofs.put_words.Given as goal
 
 abbrev pub invariant-loop-c : goal.invariant-loop-c
