@@ -2,7 +2,7 @@
 # To be read by a POSIX shell with `.`, after `here` is set to the top folder of the tree; it changes nothing by itself.
 
 # Sets machine (x86_64 or aarch64), programs (the folder of this machine's proved programs), and in a tree kit (the folder that the kit stands in),
-# toolchain, linker, loader and emulator; or says what is missing. An installed copy of the command brings its programs and needs no kit.
+# toolchain, linker and loader; or says what is missing. An installed copy of the command brings its programs and needs no kit.
 find_kit() {
     machine=$(uname -m)
     [ "$machine" != arm64 ] || machine=aarch64
@@ -22,13 +22,15 @@ find_kit() {
         return 1
     fi
     kit=${RATTLE_HOME:-$(dirname "$(dirname "$(readlink -f "$(command -v rt)")")")}
-    toolchain=$kit/on/$machine/toolchain
-    linker=$kit/on/$machine/bin/rattle-link
+    toolchain=$kit/toolchain
+    linker=$kit/bin/rattle-link
     loader=$toolchain/lib/ld-linux-x86-64.so.2
-    emulator=$toolchain/bin/qemu-x86_64
-    [ -x "$emulator" ] || emulator=''
-    if [ ! -e "$loader" ]; then
-        say "the Rattle kit at $kit has nothing for this machine, $machine"
+    if [ "$machine" != x86_64 ]; then
+        say "the Rattle kit proves and builds on x86-64 alone, and this machine is $machine: call ./keeper install on an x86-64 machine, and take the copy here"
+        return 1
+    fi
+    if [ ! -e "$loader" ] || [ ! -x "$linker" ]; then
+        say "the Rattle kit at $kit is not whole: it has no linker or no loader"
         return 1
     fi
 }
@@ -52,12 +54,17 @@ say_alone() {
     heard=5
 }
 
-# Runs an x86-64 program that the kit has linked with its own C library: what rt runs, and what the tests hold the static programs against.
+# Runs an x86-64 program that the kit has linked by the kit's own C library: what rt runs, and what the tests hold the static programs against.
 run_linked() { # PROGRAM ARGUMENTS..
-    ${emulator:+"$emulator"} "$loader" --library-path "$toolchain/lib" "$@"
+    "$loader" --library-path "$toolchain/lib" "$@"
 }
 
 # Links objects and archives into such a program; it speaks only where that fails.
 link_program() { # OUTPUT FILES..
     said=$("$linker" --target x86_64-unknown-linux-gnu --toolchain "$toolchain" -o "$@" 2>&1) || { printf '%s\n' "$said" >&2; return 1; }
+}
+
+# Links a program's object as rt does.
+link_by_kit() { # OUTPUT OBJECT
+    link_program "$1" "$2" "$kit/c/libos_c.a" "$kit/c/liblibc_c.a"
 }

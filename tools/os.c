@@ -1,6 +1,7 @@
 /* What a proved program needs of Linux, in place of a C library: start and end, arguments, files, errno and its texts, memory. Nothing here is
    proved. Each function keeps the contract that the kit's libraries libc and os assume of it, and where a call fails the program says what it says
-   with the kit's C library. A call that a signal interrupts is made again, and a descriptor that does not wait is waited for.
+   with the kit's C library. A call that a signal interrupts is made again, a descriptor that does not wait is waited for, and a program whose reader
+   is gone is ended by the signal, as every other program of a pipeline is.
    For x86-64 and aarch64, by tools/static.sh, without the compiler's own functions: it must not make a call of memcpy out of memcpy. */
 
 typedef unsigned char byte;
@@ -10,7 +11,7 @@ typedef __SIZE_TYPE__ size;
 
 #if defined __x86_64__
 
-enum { READ = 0, WRITE = 1, CLOSE = 3, SIGACTION = 13, FCNTL = 72, EXIT_GROUP = 231, OPENAT = 257, PPOLL = 271 };
+enum { READ = 0, WRITE = 1, CLOSE = 3, SEEK = 8, SIGACTION = 13, FCNTL = 72, EXIT_GROUP = 231, OPENAT = 257, PPOLL = 271 };
 
 static long call(long number, long a, long b, long c, long d, long e) {
     long result;
@@ -30,7 +31,7 @@ __asm__(".globl _start\n"
 
 #elif defined __aarch64__
 
-enum { FCNTL = 25, OPENAT = 56, CLOSE = 57, READ = 63, WRITE = 64, PPOLL = 73, EXIT_GROUP = 94, SIGACTION = 134 };
+enum { FCNTL = 25, OPENAT = 56, CLOSE = 57, SEEK = 62, READ = 63, WRITE = 64, PPOLL = 73, EXIT_GROUP = 94, SIGACTION = 134 };
 
 static long call(long number, long a, long b, long c, long d, long e) {
     register long which __asm__("x8") = number;
@@ -236,7 +237,7 @@ int __xpg_strerror_r(int number, char *buf, size n) {
 
 /* ---- files */
 
-enum { AT_FDCWD = -100, O_RDONLY = 0, O_NOCTTY = 0400, O_CLOEXEC = 02000000, F_DUPFD_CLOEXEC = 1030, POLLIN = 1, POLLOUT = 4, SIG_IGN = 1, SIGXFSZ = 25 };
+enum { AT_FDCWD = -100, F_DUPFD_CLOEXEC = 1030, POLLIN = 1, POLLOUT = 4, SIG_IGN = 1, SIGXFSZ = 25 };
 
 /* Whether a call that gave `result` is to be made again: a signal came first, or the descriptor does not wait by itself and is ready now. */
 static int again(long result, int fd, short wanted) {
@@ -267,18 +268,30 @@ static int descriptor(const char *path) {
     return i > first ? fd : -1;
 }
 
-/* Opens a file to be read. It is never descriptor 0, 1 or 2, even where these are closed, so that they stay closed for who writes there. What has
-   the name of a descriptor is that one as it stands, so that another user's pipe, a socket, or a file that is partly read goes on from there. */
-int rattle_open_to_read(const char *path) {
+/* Opens a file, which no program of ours makes. It is never descriptor 0, 1 or 2, even where these are closed, so that they stay closed for who
+   writes there. What has the name of a descriptor is that one as it stands, so that another user's pipe, a socket, or a file that is partly read
+   goes on from there. */
+int open(const char *path, int flags, ...) {
     long fd = descriptor(path);
     if (fd >= 0) return (int)answer(call(FCNTL, fd, F_DUPFD_CLOEXEC, 3, 0, 0));
-    do fd = call(OPENAT, AT_FDCWD, (long)path, O_RDONLY | O_NOCTTY | O_CLOEXEC, 0, 0);
+    do fd = call(OPENAT, AT_FDCWD, (long)path, flags, 0, 0);
     while (fd == -EINTR);
     if (fd < 0 || fd > 2) return (int)answer(fd);
     long above = call(FCNTL, fd, F_DUPFD_CLOEXEC, 3, 0, 0);
     call(CLOSE, fd, 0, 0, 0, 0);
     return (int)answer(above < 0 ? -EMFILE : above);
 }
+
+/* One command with a number behind it, as that which gives a second descriptor. */
+int fcntl(int fd, int command, ...) {
+    __builtin_va_list rest;
+    __builtin_va_start(rest, command);
+    long number = __builtin_va_arg(rest, int);
+    __builtin_va_end(rest);
+    return (int)answer(call(FCNTL, fd, command, number, 0, 0));
+}
+
+long lseek(int fd, long offset, int whence) { return answer(call(SEEK, fd, offset, whence, 0, 0)); }
 
 int close(int fd) { return (int)answer(call(CLOSE, fd, 0, 0, 0, 0)); }
 
@@ -289,37 +302,15 @@ long read(int fd, void *buf, size n) {
     return answer(result);
 }
 
-/* Whether anything was to be written to standard error, and the first bytes that standard output has taken. */
-static int said;
-static char head[8];
-static size heads;
-
-/* A message for standard error may hold a file's name. A byte in it that could move a terminal's cursor is written as a question mark, and only the
-   newline that ends it as it is. */
-static long write_message(const byte *text, size n) {
-    byte shown[256];
-    size i = 0;
-    said = 1;
-    for (; i < n && i < sizeof shown; i++) {
-        int moves = (text[i] < 32 && text[i] != '\t') || text[i] == 127;
-        shown[i] = moves && !(text[i] == '\n' && i + 1 == n) ? '?' : text[i];
-    }
-    long result;
-    do result = call(WRITE, 2, (long)shown, (long)i, 0, 0);
-    while (again(result, 2, POLLOUT));
-    return answer(result);
-}
-
 /* Writes what the descriptor takes, which may be a part. */
 long write(int fd, const void *buf, size n) {
-    if (fd == 2) return write_message(buf, n);
     long result;
     do result = call(WRITE, fd, (long)buf, (long)n, 0, 0);
     while (again(result, fd, POLLOUT));
-    if (fd == 1)
-        for (long i = 0; i < result && heads < sizeof head; i++) head[heads++] = ((const char *)buf)[i];
     return answer(result);
 }
+
+long __write(int fd, const void *buf, size n) { return write(fd, buf, n); }
 
 /* ---- memory, 16 bytes at a time; the last 16 may overlap those before */
 
@@ -404,17 +395,37 @@ long rattle_arg(size i, byte *buf, size n) {
 /* How many arguments there are, the program's own name among them. */
 size rattle_arg_count(void) { return (size)count; }
 
-/* Whether standard output begins with a text. */
-static int begins(const char *text) {
-    for (size i = 0; text[i]; i++)
-        if (i == heads || head[i] != text[i]) return 0;
-    return 1;
+/* The kit's start asks that SIGPIPE be ignored. It stays as the program was started with it. */
+void *__sysv_signal(int number, void *handler) {
+    (void)number, (void)handler;
+    return 0;
 }
 
-extern int main(void);
+#if defined __x86_64__
 
-/* The program, and its status: 1 where it had something to say on standard error, 3 where its output begins with a refusal, or else 0. A file that
-   grows over the limit for its size is an error of that write, and not a signal that ends the program. */
+/* What the processor has, as C's library tells it: four words of the instruction cpuid, and again those that may be used. The kit's start asks
+   for 1 and for 0x80000001, which are its leaves 0 and 2, and looks only for what needs no leave of the system. */
+struct leaf {
+    unsigned has[4], active[4];
+};
+
+const struct leaf *__x86_get_cpuid_feature_leaf(unsigned which) {
+    static struct leaf leaves[3];
+    struct leaf *leaf = leaves + (which == 0 ? 0 : which == 2 ? 2 : 1);
+    if (which == 0 || which == 2) {
+        unsigned *word = leaf->has;
+        __asm__ volatile("cpuid" : "=a"(word[0]), "=b"(word[1]), "=c"(word[2]), "=d"(word[3]) : "a"(which == 0 ? 1u : 0x80000001u), "c"(0));
+        for (int i = 0; i < 4; i++) leaf->active[i] = word[i];
+    }
+    return leaf;
+}
+
+#endif
+
+extern int main(int count, char **arguments);
+
+/* The program, and the status that it gives. A file that grows over the limit for its size is an error of that write, and not a signal that ends
+   the program. */
 __attribute__((noreturn)) void begin(long *stack) {
     struct {
         unsigned long handler, flags, restorer, mask;
@@ -422,7 +433,6 @@ __attribute__((noreturn)) void begin(long *stack) {
     call(SIGACTION, SIGXFSZ, (long)&ignored, 0, sizeof ignored.mask, 0);
     count = stack[0];
     arguments = (char **)(stack + 1);
-    main();
-    int status = said ? 1 : begins("page\t") || begins("refused\t") ? 3 : 0;
+    int status = main((int)count, arguments);
     for (;;) call(EXIT_GROUP, status, 0, 0, 0, 0);
 }

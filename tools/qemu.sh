@@ -23,7 +23,6 @@ run_static() { # MACHINE PROGRAM WORDS..
     shift
     case $for_machine in
     "$(uname -m)") "$@" ;;
-    x86_64) "$emulator" "$@" ;;
     aarch64) "$arm" "$@" ;;
     esac
 }

@@ -113,9 +113,10 @@ has_tools() {
 
 # ---- building
 
-# What the programs are made of, as one number: every file of the crates but the edits, the list of crates, the kit, and what links them.
+# What the programs are made of, as one number: every file of the crates but the edits, the list of crates, the kit, and what links them. What rt
+# keeps of its work in the crates' folders out/ is none of it.
 sources() {
-    (cd "$here" && { cat "$kit/KIT-ID"; find -L crates crates.txt tools/os.c tools/static.sh -type f ! -path '*/must-fail/*' -exec sha256sum {} + | LC_ALL=C sort; } | sha256sum | cut -d ' ' -f 1)
+    (cd "$here" && { cat "$kit/KIT-ID"; find -L crates crates.txt tools/os.c tools/static.sh -type d -path 'crates/*/out' ! -path 'crates/*/*/out' -prune -o -type f ! -path '*/must-fail/*' -exec sha256sum {} + | LC_ALL=C sort; } | sha256sum | cut -d ' ' -f 1)
 }
 
 # The mark of a file that is proved, or made of what is proved: what it is, what it was made of when the check began, and its sum.
@@ -141,9 +142,32 @@ is_proved() { # WHAT FILE SOURCES
     is_marked "$1" "$2" && [ "$(sed -n 2p "$2.proved")" = "sources $3" ]
 }
 
-# What a program's file and its object are called in their marks.
+# What a program's file, its object and the archive are called in their marks.
 program_mark() { echo "program $1 for $2"; } # NAME MACHINE
 object_mark() { echo "object of $1"; } # NAME
+archive_mark() { echo "archive of $1 for x86_64"; } # NAME
+
+# What rt ci has left in the tree, for the one who has the tree's lock: the sum of each library that it has built, and of each program. A library that a
+# check of one's own has built, which has a stamp, is none of them. The note counts as long as the files of the crates are those that it proved.
+note_ci() { # SOURCES
+    {
+        echo "sources $1" && (cd "$here" && for crate in crates/*; do
+            name=${crate#crates/} of=$crate/out/rlib/${crate#crates/}.rlib
+            [ -e "$crate/out/rlib/stamp" ] || [ ! -f "$of/format" ] || sha256sum "$of/format" || exit 1
+            [ ! -f "$crate/out/$name" ] || sha256sum "$crate/out/$name" || exit 1
+        done)
+    } >"$here/target/ci.new" && mv -f "$here/target/ci.new" "$here/target/ci"
+}
+
+# Whether rt ci has proved the files as they are, and all that it built of these crates and of those below is still there.
+is_by_ci() { # SOURCES NAME..
+    [ "$(sed -n 1p "$here/target/ci" 2>/dev/null)" = "sources $1" ] || return 1
+    shift
+    for of in $(crates_under "$@"); do
+        if is_program "$of"; then file=crates/$of/out/$of; elif is_archive "$of"; then continue; else file=crates/$of/out/rlib/$of.rlib/format; fi
+        [ ! -e "$here/crates/$of/out/rlib/stamp" ] && grep "  $file\$" "$here/target/ci" | (cd "$here" && sha256sum -c >/dev/null 2>&1) || return 1
+    done
+}
 
 # The names of the programs that are not built from the files as they are now.
 not_built() { # NAME..
@@ -154,7 +178,7 @@ not_built() { # NAME..
 # A crate and the crates of this tree that it depends on, a line each.
 crates_under() { # NAME..
     awk -v names="$*" '
-        { sub(/#.*/, ""); i = index($0, ":"); if (i) { n = substr($0, 1, i - 1); gsub(/[ \t]/, "", n); deps[n] = substr($0, i + 1) } }
+        { sub(/#.*/, ""); i = index($0, ":"); if (i && split(substr($0, 1, i - 1), w, " ")) deps[w[1]] = substr($0, i + 1) }
         function visit(n,    a, k, m) {
             if (!(n in deps) || n in seen) return
             seen[n] = 1
@@ -164,6 +188,10 @@ crates_under() { # NAME..
         }
         END { m = split(names, a, " "); for (k = 1; k <= m; k++) visit(a[k]) }' "$here/crates.txt"
 }
+
+# Whether a crate is a program, or an archive for C.
+is_program() { [ -f "$here/crates/$1/src/main.rt" ]; } # NAME
+is_archive() { grep -q "^$1 *staticlib *:" "$here/crates.txt"; } # NAME
 
 # The names of all programs.
 all_programs() {
@@ -197,9 +225,12 @@ can_write() { # WHY
         say "$1, and $t is no folder: move it away"
         return 1
     fi
-    mkdir -p "$t/bin" "$t/log" "$t/stamp" "$t/rlib" "$t/obj" "$t/static" 2>/dev/null || good=''
-    for one in "$t" "$t"/* "$t"/bin/* "$t"/log/* "$t"/stamp/* "$t"/rlib/* "$t"/obj/* "$t"/static/* "$t"/static/*/*; do
+    mkdir -p "$t/bin" "$t/obj" "$t/static" "$t/staticlib" 2>/dev/null || good=''
+    for one in "$t" "$t"/* "$t"/bin/* "$t"/obj/* "$t"/static/* "$t"/static/*/* "$t"/staticlib/*; do
         [ ! -e "$one" ] || [ -w "$one" ] || good=''
+    done
+    for one in "$here"/crates/*; do
+        if [ ! -w "$one" ] || { [ -e "$one/out" ] && [ ! -w "$one/out" ]; }; then good='' t="$here/crates/*/out"; fi
     done
     [ -n "$good" ] && return 0
     if [ "$(id -un)" = "$(owner "$here")" ]; then

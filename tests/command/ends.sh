@@ -135,18 +135,18 @@ if [ -e "$here/.git" ] && command -v git >/dev/null 2>&1; then
     rm -rf "$made/windows"
 fi
 
-# ---- a build that fails says why, last; a damaged target/ mends itself
-for case in 'cp: No space left on device=make some and call again' 'memory allocation of 4096 bytes failed=too little memory' 'something unheard of=remove .*target and call again'; do
+# ---- a build that fails says why, last; damaged work of earlier checks mends itself
+for case in 'cp: No space left on device=make some and call again' 'memory allocation of 4096 bytes failed=too little memory' 'something unheard of=remove .*target and .* call again'; do
     new_tree
     FAILS=${case%%=*} try "$tree/keeper" replay "$page" "$log"
     holds "14 a build that fails by '${case%%=*}' says so last" 'ended 1 && wrote_nothing && tail -n 1 "$made/err" | grep -q "is not run: .*${case#*=}"'
 done
 new_tree
 try "$tree/keeper" words "$page" "$log"
-mkdir -p "$tree/target/rlib/a.rlib"
-: >"$tree/target/rlib/a.rlib/damaged"
+mkdir -p "$tree/crates/a/out"
+: >"$tree/crates/a/out/damaged"
 try "$tree/keeper" replay "$page" "$log"
-holds '14 a damaged target/ mends itself, and says so' 'ended 0 && wrote "$want" && said "are damaged (a): they are made anew"'
+holds '14 what earlier checks kept and is damaged mends itself, and says so' 'ended 0 && wrote "$want" && said "are damaged (a): they are made anew"'
 
 # ---- ended is ended: a signal to the one process, and a folder of the kit's that is removed
 new_tree
@@ -175,7 +175,7 @@ try "$tree/keeper" words "$page" "$log"
 mkfifo "$made/slow" 2>/dev/null
 exec 7<>"$made/slow"
 # How many processes have the pipe open, those of this test among them.
-left_of() { ls -l /proc/[0-9]*/fd 2>/dev/null | grep -c "command/slow$"; }
+left_of() { ls -l /proc/[0-9]*/fd 2>/dev/null | grep -c "$made/slow$"; }
 before=$(left_of)
 for words in 'replay' 'replay --explain' 'words'; do
     # shellcheck disable=SC2086

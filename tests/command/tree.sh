@@ -20,11 +20,14 @@ new_tree() {
     for program in replay words checkbyte sheet unsheet seal; do
         mkdir -p "$tree/crates/$program/src"
         echo 'fn main() {}' >"$tree/crates/$program/src/main.rt"
+        for part in args stdin stdout status data; do
+            [ ! -e "$here/crates/$program/$part" ] || cp -R "$here/crates/$program/$part" "$tree/crates/$program/"
+        done
         echo "$program: a" >>"$tree/crates.txt"
     done
     mkdir -p "$tree/crates/rig/src" "$tree/tests/rig"
     : >"$tree/crates/rig/src/lib.rt"
-    echo 'rig: a' >>"$tree/crates.txt"
+    echo 'rig staticlib: a' >>"$tree/crates.txt"
     cp "$from/tests/rig/keeper.h" "$from/tests/rig/judge.c" "$tree/tests/rig/"
     # Every part of its gate is a stand-in too, so that the gate never runs itself.
     for part in "$from"/tests/*/run "$from/tests/gate-fails"; do
@@ -35,10 +38,13 @@ new_tree() {
     done
 }
 
-# A folder for the PATH with the stand-in.
-mkdir -p "$made/bin" "$made/tmp"
+# A folder for the PATH with the stand-in, and a kit with it in the place of the prover.
+mkdir -p "$made/bin" "$made/tmp" "$made/kit/bin"
 cp "$here/tests/command/rt" "$made/bin/rt"
-export PROVED="$here/target" RATTLE_HOME="$kit" CALLS="$made/calls"
+cp "$here/tests/command/rt" "$made/kit/bin/rattle"
+for part in KIT-ID toolchain c rlibs; do ln -sfn "$kit/$part" "$made/kit/$part"; done
+ln -sf "$kit/bin/rattle-link" "$made/kit/bin/rattle-link"
+export PROVED="$here/target" RATTLE_HOME="$made/kit" CALLS="$made/calls"
 with="$made/bin:$PATH"
 
 # Runs a command in the way of the tests: sets status, and keeps what it wrote and said.
