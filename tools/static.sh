@@ -52,11 +52,11 @@ words_for() { # NAME
 prover() { # TREE WORD NAME WORDS..
     in_tree=$1 verb=$2 of=$3
     shift 3
-    ifs=$IFS
+    words=$(words_for "$of") ifs=$IFS
     IFS='
 '
-    # shellcheck disable=SC2046
-    set -- $(words_for "$of") "$@"
+    # shellcheck disable=SC2086
+    set -- $words "$@"
     IFS=$ifs
     (cd "$in_tree/crates/$of" && exec "$kit/bin/rattle" "$verb" "$@")
 }
