@@ -9,8 +9,8 @@ decide-d-requires c = kept-watched _ c.requires
 
 pub returns-in-Accepted : goal.returns-in-Accepted
 unfolding outcome_of
-returns-in-Accepted c = rw c.enum_told-1.given.1 cc
+returns-in-Accepted c = rw c.in-Accepted.is cc
 
 pub returns-in-Refused : goal.returns-in-Refused
 unfolding outcome_of
-returns-in-Refused c = rw c.verdict-1.given.1
+returns-in-Refused c = rw c.in-Refused.is

@@ -11,7 +11,7 @@ returns-then-out-lt-ROOM c = opened (roomed-short _ 0 _ c.if-out-lt-ROOM.true).0
 
 pub returns-in-Accepted : goal.returns-in-Accepted
 unfolding header_text line_of
-returns-in-Accepted c = opened (roomed-put _ 0 _ _ _ c.if-out-lt-ROOM.false (rw c.enum_told-1.given.1 c.put_bytes.ensures.put))
+returns-in-Accepted c = opened (roomed-put _ 0 _ _ _ c.if-out-lt-ROOM.false (rw c.in-Accepted.is c.put_bytes.ensures.put))
 
 pub returns-in-Refused : goal.returns-in-Refused
-returns-in-Refused c = opened (roomed-put _ 0 _ _ _ c.if-out-lt-ROOM.false (rw c.verdict-1.given.1 c.put_page.ensures))
+returns-in-Refused c = opened (roomed-put _ 0 _ _ _ c.if-out-lt-ROOM.false (rw c.in-Refused.is c.put_page.ensures))

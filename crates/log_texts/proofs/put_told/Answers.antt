@@ -11,7 +11,7 @@ pub returns-then-out-at : goal.returns-then-out-at
 returns-then-out-at c = let both = roomed-short _ _ _ (omega arith) in record { put = both.0; t_len_bound = both.1 }
 
 pub returns-in-Decided : goal.returns-in-Decided
-returns-in-Decided c = let both = rw c.t-1.given.1 (roomed-made _ _ _ _ _ (omega arith) (c.put_decision.ensures.put, c.put_decision.ensures.d_len_bound)) in record { put = both.0; t_len_bound = both.1 }
+returns-in-Decided c = let both = rw c.in-Decided.is (roomed-made _ _ _ _ _ (omega arith) (c.put_decision.ensures.put, c.put_decision.ensures.d_len_bound)) in record { put = both.0; t_len_bound = both.1 }
 
 pub returns-in-Refused : goal.returns-in-Refused
-returns-in-Refused c = let both = rw c.t-in-Refused-1.given.1 (roomed-made _ _ _ _ _ (omega arith) (c.put_refused.ensures.put, c.put_refused.ensures.number_len_bound)) in record { put = both.0; t_len_bound = both.1 }
+returns-in-Refused c = let both = rw c.in-Refused.is (roomed-made _ _ _ _ _ (omega arith) (c.put_refused.ensures.put, c.put_refused.ensures.number_len_bound)) in record { put = both.0; t_len_bound = both.1 }

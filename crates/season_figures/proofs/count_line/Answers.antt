@@ -3,13 +3,13 @@ use borrow.Author.Rules.{rules}
 use Rattle.season_figures.proofs.count_line.Goals as goal
 
 pub returns-in-Offer : goal.returns-in-Offer
-returns-in-Offer c = rw (c.told-1.given.1, c.enum_told-1.given.1) c.add_sample.ensures
+returns-in-Offer c = rw (c.in-Decided.is, c.in-Offer.is) c.add_sample.ensures
 
 pub returns-in-Command : goal.returns-in-Command
-returns-in-Command c = rw (c.told-1.given.1, c.enum_told-in-Command-1.given.1) c.add_accepted.ensures
+returns-in-Command c = rw (c.in-Decided.is, c.in-Command.is) c.add_accepted.ensures
 
 pub returns-in-Malformed : goal.returns-in-Malformed
-returns-in-Malformed c = rw (c.told-1.given.1, c.enum_told-in-Malformed-1.given.1) c.add_accepted-in-Malformed.ensures
+returns-in-Malformed c = rw (c.in-Decided.is, c.in-Malformed.is) c.add_accepted-in-Malformed.ensures
 
 pub returns-in-Refused : goal.returns-in-Refused
-returns-in-Refused c = rw c.enum_told-in-Refused-1.given.1 c.add_refused.ensures
+returns-in-Refused c = rw c.in-Refused.is c.add_refused.ensures

@@ -5,16 +5,16 @@ use Rattle.log_compare.proofs.figures.differ.Goals as goal
 
 pub returns-in-Decided-u : goal.returns-in-Decided-u
 unfolding unlike_of
-returns-in-Decided-u c = rw (c.t-1.given.1, c.u-1.given.1) c.unlike_in.ensures
+returns-in-Decided-u c = rw (c.in-Decided-t.is, c.in-Decided-u.is) c.unlike_in.ensures
 
 pub returns-in-Refused-u : goal.returns-in-Refused-u
 unfolding unlike_of
-returns-in-Refused-u c = rw (c.t-1.given.1, c.enum_told-1.given.1) c.all.ensures
+returns-in-Refused-u c = rw (c.in-Decided-t.is, c.in-Refused-u.is) c.all.ensures
 
 pub returns-in-Decided-u-2 : goal.returns-in-Decided-u-2
 unfolding unlike_of
-returns-in-Decided-u-2 c = rw (c.t-in-Refused-t-1.given.1, c.enum_told-in-Decided-u-2-1.given.1) c.all-in-Decided-u-2.ensures
+returns-in-Decided-u-2 c = rw (c.in-Refused-t.is, c.in-Decided-u-2.is) c.all-in-Decided-u-2.ensures
 
 pub returns-in-Refused-u-2 : goal.returns-in-Refused-u-2
 unfolding unlike_of
-returns-in-Refused-u-2 c = rw (c.t-in-Refused-t-1.given.1, c.u-in-Refused-1.given.1) c.all-in-Refused-u-2.ensures
+returns-in-Refused-u-2 c = rw (c.in-Refused-t.is, c.in-Refused-u-2.is) c.all-in-Refused-u-2.ensures

@@ -5,4 +5,9 @@ use borrow.Author.Rules.{rules}
 use Rattle.pack_log.proofs.ends.begin.Goals as goal
 
 pub returns : goal.returns
-returns c = let both = ((ap (λ (x : Answered). x.verdict) c.load-a.ensures.value, ap (λ (x : Answered). x.pack) c.load-a.ensures.value), (c.load-a.ensures.verdict_value.0, (c.put_opening-written.ensures, c.load-a.ensures.verdict_value.1))) in record { verdict_value = both.0; verdict_value_2 = both.1; opened = both.2; kept = both.3 }
+returns c = record {
+  verdict_value = (ap (λ (x : Answered). x.verdict) c.load-a.ensures.value, ap (λ (x : Answered). x.pack) c.load-a.ensures.value);
+  verdict_value_2 = c.load-a.ensures.verdict_value;
+  opened = c.put_opening-written.ensures;
+  kept = c.load-a.ensures.kept;
+}

@@ -20,22 +20,22 @@ returns-then-a c = let a = c.args in
 pub returns-in_default : goal.returns-in_default
 returns-in_default c = let a = c.args in
     next-none a.bytes.now a.from _ c.read_ahead-a.ensures c.if-a.false
-    (sym c.next_line-n.ensures ∙ c.enum_told-1.given.1)
+    (sym c.next_line-n.ensures ∙ c.in_default.is)
 
 pub slice_bounds-line-count : goal.slice_bounds-line-count
-slice_bounds-line-count c = let n = c.n-1.given in
-    let e = next-ends _ _ n.0.0 n.0.1.0 (sym c.next_line-n.ensures ∙ n.1) in omega arith
+slice_bounds-line-count c = let n = c.in-Ends in
+    let e = next-ends _ _ n.end n.next (sym c.next_line-n.ensures ∙ n.is) in omega arith
 
 pub slice_bounds-line-start : goal.slice_bounds-line-start
-slice_bounds-line-start c = let n = c.n-1.given in
-    let e = next-ends _ _ n.0.0 n.0.1.0 (sym c.next_line-n.ensures ∙ n.1) in omega arith
+slice_bounds-line-start c = let n = c.in-Ends in
+    let e = next-ends _ _ n.end n.next (sym c.next_line-n.ensures ∙ n.is) in omega arith
 
 pub slice_bounds-line-end : goal.slice_bounds-line-end
-slice_bounds-line-end c = let n = c.n-1.given in
-    let e = next-ends _ _ n.0.0 n.0.1.0 (sym c.next_line-n.ensures ∙ n.1) in omega arith
+slice_bounds-line-end c = let n = c.in-Ends in
+    let e = next-ends _ _ n.end n.next (sym c.next_line-n.ensures ∙ n.is) in omega arith
 
 pub returns : goal.returns
 returns c = let a = c.args in
-    let n = c.n-1.given in
-    next-read a.bytes.now a.from n.0.0 n.0.1.0 _ (sym c.next_line-n.ensures ∙ n.1)
+    let n = c.in-Ends in
+    next-read a.bytes.now a.from n.end n.next _ (sym c.next_line-n.ensures ∙ n.is)
     c.read_entry-e.ensures

@@ -28,4 +28,4 @@ loop-n-smaller c = let e = (next-is _ _ _ c.next_entry-n.ensures).ended c.if-n.f
 pub loop-n-preserved : goal.loop-n-preserved
 loop-n-preserved c = let i = c.loop-n.invariant in
     let e = (next-is _ _ _ c.next_entry-n.ensures).ended c.if-n.false in
-    (pass-on _ _ _ _ i.0 _ _ e.0 _ e.1 _ c.answered_by-a.ensures.value, c.answered_by-a.ensures.verdict_value.1)
+    (pass-on _ _ _ _ i.0 _ _ e.0 _ e.1 _ c.answered_by-a.ensures.value, c.answered_by-a.ensures.kept)
