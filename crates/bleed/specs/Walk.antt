@@ -2,20 +2,17 @@
 pub mod Walk
 -- To be believed: who rests, the start cell, and who is bled at each sample of a history.
 pub mod History
--- Laws of one walk: at most K, no two neighbours, nobody passed over without a reason, a lone wanting cell is bled unless it rests.
-pub mod WalkLaws
--- The third demand over any history of wishes.
-pub mod Demand
--- Computed cases: the starred samples, each of document 01's slips, and that n samples would not do.
+-- What the laws of the walk say of a cell that is not taken.
+pub mod Settled
+-- Computed cases: the starred samples, and each of document 01's slips.
 pub mod Cases
 -- A list of cells as a word.
 pub mod Word
 -- What the code works out at one sample, from words.
 pub mod Steps
--- The code's walk over words is the walk over cells.
-pub mod StepLaws
--- To be believed, its first part: what the walk has taken when it reaches a cell. Then that the cell is bled exactly if it is taken then, and
--- that the code's walk up to the cell has taken the same.
+-- The order of the walk as the code goes through it, and the cells of a pack.
+pub mod InPack
+-- To be believed: what the walk has taken when it reaches a cell.
 pub mod Reached
--- What a pack keeps for bleeding, as the history says it; one step of the code's leads to what the longer history says.
+-- What a pack keeps for bleeding, as the history says it.
 pub mod Balance

@@ -20,7 +20,7 @@ use Rattle.refusals.specs.declared.Verdict.TheVariants.{Accepted}
 use Rattle.guard_raised.specs.Words.{raised_after, blocks_any-is, raised_word_after-has}
 use Rattle.page_settings.specs.declared.Settings.{Settings}
 use Rattle.page_settings.specs.Settings.{rules_of, settings_of}
-use Rattle.bleed.specs.Walk.Balance.{bled-few}
+use Rattle.bleed.proofs.Walk.Balance.{bled-few}
 use Rattle.pack_state.specs.declared.Pack.{Pack}
 use Rattle.sample.specs.declared.Sample.{Sample}
 use Rattle.sample.specs.Cells.{best_of, highest, lowest, extremes_of, highest-number, lowest-number}

@@ -17,8 +17,9 @@ use Rattle.page_settings.specs.Good.{Good}
 use Rattle.bleed.specs.Walk.Walk.{has}
 use Rattle.bleed.specs.Walk.History.{wants_cell}
 use Rattle.bleed_wants.specs.Word.{holds_cell, in-none}
-use Rattle.bleed.specs.Walk.Demand.{fair-anywhere, never-over-R}
-use Rattle.bleed.specs.Walk.Balance.{bled_word_after, bled_now_after, bled-bit, bled-few, bled-apart}
+use Rattle.bleed.proofs.Walk.Demand.{fair-anywhere, never-over-R}
+use Rattle.bleed.specs.Walk.Balance.{bled_word_after, bled_now_after}
+use Rattle.bleed.proofs.Walk.Balance.{bled-bit, bled-few, bled-apart}
 use Rattle.pack_state.specs.State.{by_page, wishes_after, bled_after, bleds_after}
 
 -- The bled words of a history, one for each accepted sample: what 0x46 showed after it.

@@ -28,7 +28,7 @@ use Rattle.page_settings.specs.Good.{limits-own, most-protections}
 use Rattle.bleed_wants.specs.Wants.{is_charging, wants}
 use Rattle.bleed_wants.specs.Steps.{wishes}
 use Rattle.bleed.specs.Walk.Walk.{order}
-use Rattle.bleed.specs.Walk.WalkLaws.{walk-none}
+use Rattle.bleed.proofs.Walk.WalkLaws.{walk-none}
 use Rattle.bleed.specs.Walk.Word.{cells_word}
 use Rattle.bleed.specs.Walk.History.{resting, start_cell}
 use Rattle.bleed.specs.Walk.Balance.{bled_word_after}

@@ -18,11 +18,11 @@ use Rattle.sample.specs.Cells.{no_volts, lowest, lowest-among, extremes_of, extr
 use Rattle.page_settings.specs.declared.Settings.{Settings}
 use Rattle.page_settings.specs.Good.{Good, accepted-good}
 use Rattle.page_judge.specs.Page.{judged}
-use Rattle.bleed.specs.Walk.Demand.{bleds-drop}
+use Rattle.bleed.proofs.Walk.Demand.{bleds-drop}
 use Rattle.pack.specs.Kept.{page_of, past_after}
 use Rattle.pack.specs.Calls.{page-accepted}
 use Rattle.bleed.specs.Walk.Walk.{has, chosen}
-use Rattle.bleed.specs.Walk.WalkLaws.{lone-bled}
+use Rattle.bleed.proofs.Walk.WalkLaws.{lone-bled}
 use Rattle.bleed.specs.Walk.History.{wants_cell, resting, start_cell, bleds}
 use Rattle.bleed_wants.specs.Wants.{wants}
 use Rattle.bleed_wants.specs.Steps.{wishes, volts_of}

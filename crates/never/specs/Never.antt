@@ -25,7 +25,7 @@ use Rattle.bleed_wants.specs.Wants.{wants}
 use Rattle.bleed_wants.specs.Word.{holds_cell}
 use Rattle.bleed_wants.specs.Steps.{volts_of, wishes}
 use Rattle.bleed.specs.Walk.Walk.{has}
-use Rattle.bleed.specs.Walk.WalkLaws.{only-wanting}
+use Rattle.bleed.proofs.Walk.WalkLaws.{only-wanting}
 use Rattle.bleed.specs.Walk.History.{resting, start_cell}
 use Rattle.pack_refusals.specs.Samples.{trimmed}
 use Rattle.pack_state.specs.State.{wish_at, wishes_after, bleds_after}

@@ -23,7 +23,8 @@ use Rattle.bleed_wants.specs.Word.{holds_cell, cells_passing-in}
 use Rattle.bleed.specs.Walk.History.{resting, start_cell}
 use Rattle.bleed.specs.Resting.Steps.{next_runs, resting_word}
 use Rattle.bleed.specs.Walk.Steps.{chosen_word}
-use Rattle.bleed.specs.Walk.Balance.{runs_after, bled_word_after, Shows, wanting-shows, next-start-is, resting-is, choose-is, runs-are}
+use Rattle.bleed.specs.Walk.Balance.{runs_after, bled_word_after, Shows}
+use Rattle.bleed.proofs.Walk.Balance.{wanting-shows, next-start-is, resting-is, choose-is, runs-are}
 use Rattle.page_settings.specs.declared.Rules.{Rules}
 use Rattle.pack_state.specs.declared.Balance.{Balance}
 use Rattle.pack_state.specs.declared.Pack.{Pack}

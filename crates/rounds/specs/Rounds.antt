@@ -17,12 +17,13 @@ use Rattle.page_settings.specs.Good.{Good}
 use Rattle.sample.specs.declared.Sample.{Sample}
 use Rattle.bleed_wants.specs.Word.{holds_cell}
 use Rattle.bleed.specs.Walk.Walk.{has, neighbours, has_neighbour, order, takes, walk}
-use Rattle.bleed.specs.Walk.WalkLaws.{walk-has, walk-same, order-only, only-cells}
+use Rattle.bleed.proofs.Walk.WalkLaws.{walk-has, walk-same, order-only, only-cells}
 use Rattle.bleed.specs.Walk.History.{wants_cell, resting, start_cell}
 use Rattle.bleed.specs.Walk.Reached.{up_to, taken_before}
 use Rattle.bleed.specs.Walk.Word.{cells_word-ones}
-use Rattle.bleed.specs.Walk.StepLaws.{InPack}
-use Rattle.bleed.specs.Walk.Balance.{bled_word_after, start-cell}
+use Rattle.bleed.specs.Walk.InPack.{InPack}
+use Rattle.bleed.specs.Walk.Balance.{bled_word_after}
+use Rattle.bleed.proofs.Walk.Balance.{start-cell}
 use Rattle.pack_state.specs.State.{by_page, wish_at, wishes_after, bleds_after, bled_after}
 use Rattle.pack_state.specs.Steps.{wishes-length}
 use Rattle.pack.specs.Events.{Event}

@@ -7,11 +7,12 @@ use Rattle.laws.specs.Tests.{by-test, clash, or-left, or-right}
 use Rattle.laws.specs.Latest.{last_all, among, last_all-le, last_all-front, last_all-back, among-le, among-add}
 use Rattle.bleed.specs.Walk.Walk.{has, has_neighbour, order, takes, walk, chosen}
 use Rattle.bleed.specs.Walk.History.{wants_cell, resting, start_cell, bleds}
-use Rattle.bleed.specs.Walk.WalkLaws.{no-waste, own-turn}
+use Rattle.bleed.proofs.Walk.WalkLaws.{no-waste, own-turn}
 use Rattle.bleed.specs.Walk.Word.{Once}
-use Rattle.bleed.specs.Walk.StepLaws.{order-once}
-use Rattle.bleed.specs.Walk.Reached.{taken_before, bled-takes}
-use Rattle.bleed.specs.Walk.Demand.{bleds-drop, fair}
+use Rattle.bleed.proofs.Walk.StepLaws.{order-once}
+use Rattle.bleed.specs.Walk.Reached.{taken_before}
+use Rattle.bleed.proofs.Walk.Reached.{bled-takes}
+use Rattle.bleed.proofs.Walk.Demand.{bleds-drop, fair}
 use Rattle.demands.specs.Shown.{nobody}
 
 -- ---- what the walk takes, it takes once

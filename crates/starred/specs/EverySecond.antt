@@ -4,7 +4,7 @@ use Rattle.std.specs.Prelude.{◌≡◌, refl, Bool, true, false, not, List, [],
 use Rattle.std.proofs.Common.{sym, ⊎_elim, mod-lt, arith, eq-eqb, eqb-true}
 use Rattle.laws.specs.Tests.{by-test, clash, or-left, or-cases}
 use Rattle.bleed.specs.Walk.Walk.{has}
-use Rattle.bleed.specs.Walk.WalkLaws.{lone-bled}
+use Rattle.bleed.proofs.Walk.WalkLaws.{lone-bled}
 use Rattle.bleed.specs.Walk.History.{resting, start_cell, bleds}
 
 -- Cell k wants, and no other.

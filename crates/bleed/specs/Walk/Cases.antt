@@ -1,10 +1,8 @@
--- Document 01's worked samples of bleeding and a case for each of its slips, computed from the definitions; and that n samples would
--- not do where n + 1 do.
+-- Document 01's worked samples of bleeding and a case for each of its slips, computed from the definitions; and the histories at which
+-- n samples would not do.
 -- Assumes nothing.
-use Rattle.std.specs.Prelude.{◌≡◌, refl, Bool, true, false, ◌&&◌, List, [], ◌∷◌, ◌++◌, map, reverse, ℕ, zero, suc, ◌+◌, ◌-◌, ◌≤◌, ◌<◌, eqb, take, replicate}
-use Rattle.std.proofs.Common.{⊎_elim, eq-or-lt_of_le, arith, eqb-true}
+use Rattle.std.specs.Prelude.{◌≡◌, refl, Bool, true, false, ◌&&◌, List, [], ◌∷◌, ◌++◌, map, reverse, ℕ, ◌-◌, eqb, replicate}
 use Rattle.std.specs.Int.Count.{ones, ones_in}
-use Rattle.laws.specs.Tests.{and-left, and-right}
 use Rattle.laws.specs.Bits.{has_bit, with_bit, with_bit_if}
 use Rattle.laws.specs.Latest.{last_all, among}
 use Rattle.bleed.specs.Resting.Steps.{next_cell}
@@ -104,7 +102,7 @@ ends-of-a-word = refl
 -- ---- n would not do
 
 -- Cell 1 wants at the latest n samples of the history and is bled at none of them.
-abbrev starves : ℕ → ℕ → ℕ → List (ℕ → Bool) → Bool
+abbrev pub starves : ℕ → ℕ → ℕ → List (ℕ → Bool) → Bool
 starves n K R ws = last_all n (wants_cell 1) ws && eqb (among n (has 1) (bleds n K R ws)) 0
 
 -- Cell 1 is bled at the sample before its own start turn. It rests at that turn, and at each later one the start cell wants too.
@@ -112,37 +110,15 @@ abbrev pub waiting : ℕ → List (ℕ → Bool)
 waiting n = history (replicate (n - 1) [] ++ (1 ∷ []) ∷ map (λ k. 1 ∷ k ∷ []) (up_from 1 n))
 
 -- Two cells need three samples as well where any wishes may come. (Of two cells of a pack only one can exceed the lowest, and there two samples do.)
-abbrev both : List (List ℕ)
+abbrev pub both : List (List ℕ)
 both = (1 ∷ []) ∷ (1 ∷ []) ∷ (1 ∷ 2 ∷ []) ∷ (1 ∷ 2 ∷ []) ∷ []
 
 both-bled : bled 2 1 2 both ≡ (1 ∷ []) ∷ (1 ∷ []) ∷ (2 ∷ []) ∷ (2 ∷ []) ∷ []
 both-bled = refl
 
-abbrev all : (ℕ → Bool) → List ℕ → Bool
+abbrev pub all : (ℕ → Bool) → List ℕ → Bool
 all p [] = true
 all p (k ∷ l) = p k && all p l
-
--- The worked sample up to its sixth, the two cells, and a history for each n from 2 to 10.
-all-starve :
-    starves 3 1 1 (history (take 6 starred_wishes)) && starves 2 1 2 (history both) && all (λ n. starves n 1 1 (waiting n)) (up_from 2 9) ≡ true
-all-starve = refl
-
-all-at : (p : ℕ → Bool) (a m k : ℕ) → all p (up_from a m) ≡ true → a ≤ k → k < a + m → p k ≡ true
-all-at p a zero k e h q = let z : ⊥ = omega arith in absurd z
-all-at p a (suc m) k e h q =
-    ⊎_elim
-    (λ (same : a ≡ k). rw (← same) (and-left (p a) (all p (up_from (suc a) m)) e))
-    (λ (later : a < k). all-at p (suc a) m k (and-right (p a) (all p (up_from (suc a) m)) e) later (omega arith))
-    (eq-or-lt_of_le h)
-
--- "Students always say n would do. It won't."
-pub n-is-too-few : (n : ℕ) → 2 ≤ n → n ≤ 10
-    → (last_all n (wants_cell 1) (waiting n) ≡ true) × (among n (has 1) (bleds n 1 1 (waiting n)) ≡ 0)
-n-is-too-few n h t =
-    let e : starves n 1 1 (waiting n) ≡ true = all-at (λ m. starves m 1 1 (waiting m)) 2 9 n all-starve h (omega arith) in (
-      and-left (last_all n (wants_cell 1) (waiting n)) (eqb (among n (has 1) (bleds n 1 1 (waiting n))) 0) e,
-      eqb-true (among n (has 1) (bleds n 1 1 (waiting n))) 0 (and-right (last_all n (wants_cell 1) (waiting n)) (eqb (among n (has 1) (bleds n 1 1 (waiting n))) 0) e),
-    )
 
 -- A pack of three cells has no cell 4: neither the walk nor its word takes one, and there is no cell 0.
 past-the-last : (bled 3 2 4 ((1 ∷ 4 ∷ 5 ∷ []) ∷ (4 ∷ 3 ∷ []) ∷ []) ≡ (1 ∷ []) ∷ (3 ∷ []) ∷ []) × (chosen_word 3 1 8 0 1 ∷ chosen_word 3 1 12 0 2 ∷ [] ≡ 0 ∷ 4 ∷ [])

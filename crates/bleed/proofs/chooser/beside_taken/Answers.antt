@@ -1,7 +1,7 @@
 -- `bleed::chooser::beside_taken` meets its contract. Assumes nothing.
 use mathlib.Core.Path.{sym, ◌∙◌}
 use native.Mathlib.Omega.{arith}
-use Rattle.bleed.specs.Walk.StepLaws.{beside-before, beside-after}
+use Rattle.bleed.proofs.Walk.StepLaws.{beside-before, beside-after}
 use Rattle.bleed.proofs.chooser.beside_taken.Goals as goal
 use Rattle.bleed.proofs.chooser.beside_taken.Goals.{then-k-gt1+else-has_bit, else-k-gt1}
 

@@ -1,7 +1,7 @@
 -- `bleed::chooser::choose` meets its contract
 use mathlib.Core.Path.{◌≡◌, refl, sym, ◌∙◌}
 use native.Mathlib.Omega.{arith}
-use Rattle.bleed.specs.Walk.StepLaws.{take-on, take-none, chosen-is, chosen-nowhere, chosen-meets, chosen-none}
+use Rattle.bleed.proofs.Walk.StepLaws.{take-on, take-none, chosen-is, chosen-nowhere, chosen-meets, chosen-none}
 use Rattle.bleed.proofs.chooser.choose.Goals as goal
 
 pub returns-then-want-eq0 : goal.returns-then-want-eq0

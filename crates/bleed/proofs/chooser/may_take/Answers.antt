@@ -1,6 +1,6 @@
 -- `bleed::chooser::may_take` meets its contract: a test that fails ends it, and the count of ones is the answer. Assumes nothing.
 use mathlib.Core.Path.{sym, ◌∙◌}
-use Rattle.bleed.specs.Walk.StepLaws.{may-unwilling, may-resting, may-beside, may-few}
+use Rattle.bleed.proofs.Walk.StepLaws.{may-unwilling, may-resting, may-beside, may-few}
 use Rattle.bleed.proofs.chooser.may_take.Goals as goal
 
 pub returns-then-holds_cell-2 : goal.returns-then-holds_cell-2

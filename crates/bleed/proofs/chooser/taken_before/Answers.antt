@@ -1,6 +1,6 @@
 -- `bleed::chooser::taken_before` meets its contract
 use mathlib.Core.Path.{◌≡◌, refl, sym, ◌∙◌}
-use Rattle.bleed.specs.Walk.Reached.{to-reached, to-on, to-none, taken-is, taken-nowhere}
+use Rattle.bleed.proofs.Walk.Reached.{to-reached, to-on, to-none, taken-is, taken-nowhere}
 use native.Mathlib.Omega.{arith}
 use Rattle.bleed.proofs.chooser.taken_before.Goals as goal
 

@@ -9,7 +9,7 @@ use Rattle.laws.specs.Tests.{by-test, clash, and-left, and-right}
 use Rattle.laws.specs.Latest.{last_all, run, among, last_all-run, last_all-le, last_all-length, among-le}
 use Rattle.bleed.specs.Walk.Walk.{has, chosen}
 use Rattle.bleed.specs.Walk.History.{wants_cell, resting, start_cell, bleds}
-use Rattle.bleed.specs.Walk.WalkLaws.{at-most-K, no-neighbours, only-wanting, own-turn}
+use Rattle.bleed.proofs.Walk.WalkLaws.{at-most-K, no-neighbours, only-wanting, own-turn}
 
 no-less : (b : Bool) (x : ℕ) → x ≤ cond b (suc x) x
 no-less true x = omega arith

@@ -5,6 +5,7 @@ use Rattle.std.proofs.Common.{sym, ap, ◌∙◌, inl, inr, ⊎_elim, true≢fal
 use Rattle.std.proofs.lemmas.Bool.{not-true, eqb-false}
 use Rattle.laws.specs.Tests.{by-test, clash, and-left, and-right, or-left, or-right, or-cases}
 use Rattle.bleed.specs.Walk.Walk.{has, neighbours, has_neighbour, up_from, order, takes, walk, chosen}
+use Rattle.bleed.specs.Walk.Settled.{Settled}
 
 -- A cell of the set that is a neighbour of k makes k have a neighbour there.
 pub neighbour-of : (k d : ℕ) (l : List ℕ) → has d l ≡ true → neighbours k d ≡ true → has_neighbour k l ≡ true
@@ -14,10 +15,6 @@ neighbour-of k d (y ∷ l) h e =
     (λ u. or-left (neighbours k y) (has_neighbour k l) (rw (← (eqb-true d y u)) e))
     (λ u. or-right (neighbours k y) (has_neighbour k l) (neighbour-of k d l u e))
     (or-cases (eqb d y) (has d l) h)
-
--- Nothing is wasted on cell k: it is taken, or a neighbour is, or K cells are.
-abbrev pub Settled : ℕ → ℕ → List ℕ → Type 0
-Settled K k l = (has k l ≡ true) ⊎ ((has_neighbour k l ≡ true) ⊎ (K ≤ length l))
 
 -- ---- the walk over any list of cells
 

@@ -12,16 +12,12 @@ use Rattle.laws.specs.Bits.{has_bit, with_bit_if, has-zero}
 use Rattle.bleed_wants.specs.Word.{holds_cell, in-none}
 use Rattle.bleed.specs.Resting.Steps.{next_cell}
 use Rattle.bleed.specs.Walk.Walk.{has, neighbours, has_neighbour, up_from, order, takes, walk, chosen}
-use Rattle.bleed.specs.Walk.WalkLaws.{neighbour-of, has-append, up_from-only, order-only, at-most-K, no-neighbours, only-cells, walk-none}
+use Rattle.bleed.proofs.Walk.WalkLaws.{neighbour-of, has-append, up_from-only, order-only, at-most-K, no-neighbours, only-cells, walk-none}
 use Rattle.bleed.specs.Walk.Word.{with_cell_if, cells_word, Small, Once, cells_word-bit, cells_word-ones, cells_word-few}
 use Rattle.bleed.specs.Walk.Steps.{is_cell, chosen_word, Chosen, beside_taken, may_take, take_one, take_from}
+use Rattle.bleed.specs.Walk.InPack.{Way, InPack}
 
 -- ---- the order of the walk is the next cell, again and again
-
--- The list is the way from a, one cell after the other.
-abbrev pub Way : ℕ → ℕ → List ℕ → Type 0
-Way n a [] = Unit {0}
-Way n a (k ∷ cells) = (k ≡ a) × Way n (next_cell n a) cells
 
 low-way : (n a m : ℕ) → a + m ≤ suc n → Way n a (up_from a m)
 unfolding next_cell
@@ -178,12 +174,6 @@ module _ (n K want rest : ℕ) where
       (small-more b c t (sc c mine) st) (once-more b c t (new c mine) ot) (new-more b c cells t oc.0 new))
 
 -- ---- the start cell
-
--- What it says that cell k is one of a pack's n cells.
-pub record InPack (n k : ℕ) : Type 0 where
-  pub ten : n ≤ 10
-  pub first : 1 ≤ k
-  pub last : k ≤ n
 
 pub cell-says : (n k : ℕ) → is_cell n k ≡ true → InPack n k
 unfolding is_cell
