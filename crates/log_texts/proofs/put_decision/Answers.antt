@@ -1,6 +1,5 @@
 -- `log_texts::put_decision` meets its contract. Assumes nothing.
 use Rattle.log_texts.specs.Writing.{decision-put}
-use borrow.Author.Rules.{rules}
 use Rattle.log_texts.proofs.put_decision.Goals as goal
 
 pub returns : goal.returns

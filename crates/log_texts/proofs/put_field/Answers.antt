@@ -1,6 +1,5 @@
 -- `log_texts::put_field` meets its contract. Assumes nothing.
 use Rattle.text_writing.specs.Rows.{put-field}
-use borrow.Author.Rules.{rules}
 use Rattle.log_texts.proofs.put_field.Goals as goal
 
 pub returns : goal.returns

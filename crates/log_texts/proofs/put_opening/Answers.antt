@@ -3,7 +3,6 @@ use Rattle.text_fields.specs.Fields.{line_of}
 use Rattle.log_texts.specs.Texts.{header_text}
 use Rattle.text_writing.specs.Rows.{roomed-short, roomed-put}
 use Rattle.log_texts.specs.Room.{opened}
-use borrow.Author.Rules.{rules}
 use Rattle.log_texts.proofs.put_opening.Goals as goal
 
 pub returns-then-out-lt-ROOM : goal.returns-then-out-lt-ROOM

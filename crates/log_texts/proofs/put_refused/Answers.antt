@@ -2,7 +2,6 @@
 use native.Mathlib.Omega.{arith}
 use Rattle.text_writing.specs.Rows.{put-room}
 use Rattle.log_texts.specs.Writing.{field-byte, refused-few, refused-put, refused_word}
-use borrow.Author.Rules.{rules}
 use Rattle.log_texts.proofs.put_refused.Goals as goal
 
 pub put_field-requires : goal.put_field-requires
