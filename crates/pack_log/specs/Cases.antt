@@ -1,6 +1,6 @@
 -- Worked logs, computed: the lines of a log one behind the other, and its events.
 -- Assumes nothing.
-use Rattle.std.specs.Prelude.{◌≡◌, refl, List, [], ◌∷◌, map, ℕ, negsuc}
+use Rattle.std.specs.Prelude.{◌≡◌, refl, [], ◌∷◌, map, negsuc}
 use Rattle.text_fields.specs.Quoted.{quoted}
 use Rattle.text_fields.specs.Finding.{before, lacks}
 use Rattle.text_fields.specs.Fields.{fields_of}

@@ -7,7 +7,6 @@ use Rattle.std.proofs.Common.{sym, ◌∙◌, arith}
 use mathlib.Core.List.{List, [], ◌∷◌, ◌++◌, append-nil}
 use Rattle.log_lines.specs.Lines.{lines_of}
 use Rattle.log_lines.specs.Folded.{behind_lines, behind_log}
-use Rattle.log_lines.specs.Output as any
 use Rattle.log_lines.specs.Run.{closing, Round, read_in, written_in, state_behind, held_behind, done_behind, Ran, whole-log}
 use Rattle.refusals.specs.declared.Verdict.TheVariants as verdict
 use Rattle.pack_state.specs.declared.Pack.{Pack}

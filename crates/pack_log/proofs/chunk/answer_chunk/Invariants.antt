@@ -1,14 +1,10 @@
 -- `pack_log::chunk::answer_chunk` meets its contract. The loop keeps `Going` (crate log_lines, Chunk) and that the pack is kept. Assumes nothing.
 use Prim.Native.Nat.{◌-◌}
 use lib.ListN.{length}
-use Rattle.log_lines.specs.Chunk.{Going, going-start, going-done, going-full}
+use Rattle.log_lines.specs.Chunk.{Going}
 use Rattle.pack.specs.Kept.{Kept}
-use Rattle.log_answers.specs.Tell.{tell-read}
-use Rattle.pack_log.specs.Next.{next-is}
-use Rattle.pack_log.specs.Replay.{next_pack, line_text, chunk-on}
+use Rattle.pack_log.specs.Replay.{next_pack, line_text}
 use Rattle.log_texts.specs.Room.{room}
-use borrow.Author.Rules.{rules}
-use native.Mathlib.Omega.{arith}
 use Rattle.pack_log.proofs.chunk.answer_chunk.Given as goal
 
 abbrev pub invariant-loop-n : goal.invariant-loop-n

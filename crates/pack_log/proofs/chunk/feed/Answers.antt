@@ -2,7 +2,6 @@
 use Rattle.log_lines.specs.Run.{feed-made}
 use Rattle.log_texts.specs.Room.{room}
 use Rattle.pack_log.specs.Replay.{next_pack, line_text}
-use borrow.Author.Rules.{rules}
 use Rattle.pack_log.proofs.chunk.feed.Goals as goal
 
 pub returns : goal.returns

@@ -1,7 +1,6 @@
 -- `pack_log::ends::begin` meets its contract. Assumes nothing.
 use mathlib.Core.Path.{ap}
 use Rattle.pack.specs.declared.Answered.{Answered}
-use borrow.Author.Rules.{rules}
 use Rattle.pack_log.proofs.ends.begin.Goals as goal
 
 pub returns : goal.returns

@@ -2,7 +2,6 @@
 use Rattle.pack_log.specs.Replay.{closing-none, closing-put}
 use Rattle.log_texts.specs.Room.{put-within}
 use native.Mathlib.Omega.{arith}
-use borrow.Author.Rules.{rules}
 use Rattle.pack_log.proofs.ends.put_closing.Goals as goal
 
 pub returns-then-held-eq0 : goal.returns-then-held-eq0

@@ -5,7 +5,6 @@ use Rattle.log_lines.specs.Walking.{next-ends}
 use Rattle.log_entries.specs.declared.Ahead.{Ahead}
 use Rattle.log_entries.specs.Ahead.{ahead-is}
 use Rattle.pack_log.specs.Next.{next-ahead, next-read, next-none}
-use borrow.Author.Rules.{rules}
 use Rattle.pack_log.proofs.next.next_entry.Goals as goal
 
 pub overflow_add-result : goal.overflow_add-result

@@ -1,7 +1,6 @@
 -- `pack_log::pass::pass` meets its contract. Assumes nothing.
 use Rattle.log_lines.specs.Run.{feed-made}
 use Rattle.pack_log.specs.Replay.{next_pack, no_text}
-use borrow.Author.Rules.{rules}
 use Rattle.pack_log.proofs.pass.pass.Goals as goal
 
 pub returns : goal.returns

@@ -1,12 +1,7 @@
 -- `pack_log::pass::pass_chunk` meets its contract
-use mathlib.Core.List.{[]}
-use Prim.Native.Nat.{◌-◌}
-use lib.ListN.{length}
-use Rattle.log_lines.specs.Chunk.{Going, going-start, going-done}
-use Rattle.pack.specs.Kept.{Kept}
+use Rattle.log_lines.specs.Chunk.{going-start, going-done}
 use Rattle.pack_log.specs.Next.{next-is}
 use Rattle.pack_log.specs.Replay.{next_pack, no_text, pass-on}
-use borrow.Author.Rules.{rules}
 use native.Mathlib.Omega.{arith}
 use Rattle.pack_log.proofs.pass.pass_chunk.Goals as goal
 
