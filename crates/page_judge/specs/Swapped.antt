@@ -50,4 +50,5 @@ swapped-refused b small e =
     let size : length b ≡ bytes_of l = accepted-length b e in
     let mark : word_at b 0 ≡ l.mark = accepted-mark b e in
     let wide : 256 ≤ word_at b 0 = rw mark (mark-wide (length b)) in
-    rw (judged-is, swapped-length b, eq-eqb (length b) (bytes_of l) size, swapped-first b small wide, mark, mark-backwards (length b))
+    let told : read_backwards (swapped_word l.mark) ≡ true = both (λ (m : Layout). read_backwards (swapped_word m.mark) ≡ true) refl refl (length b) in
+    rw (judged-is, swapped-length b, eq-eqb (length b) (bytes_of l) size, swapped-first b small wide, mark, told)

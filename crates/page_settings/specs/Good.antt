@@ -117,23 +117,7 @@ range-signed : (i x : ℕ) → InRange i x → x ≤ 32767 → InRangeSigned i (
 unfolding signed_of
 range-signed i x h g = record { value = x; is = rw (lt-ltb x 32768 (omega arith)); inside = h }
 
--- What an accepted page says of a protection that it has is good,
-own-good : (b : List ℕ) → judged b ≡ Accepted → (p : ℕ) → p < page_protections b → GoodLimits (row_at p).direction (limits_from b p)
-unfolding limits_from
-own-good b e p h =
-    let l : Limited b p = accepted-limits b e p h in
-    record {
-      n-least = l.n.0;
-      n-most = l.n.1;
-      m-least = l.m.0;
-      m-most = l.m.1;
-      mask-most = l.mask;
-      ordered =
-          level-order (row_at p).quantity (row_at p).direction (word_at b (trip_word p)) (word_at b (trip_word p + 1)) l.trip l.release
-          l.order;
-    }
-
--- and so is what stands for one that it does not have: those look at temperature 1 and trip at or below.
+-- What stands for a protection that an accepted page does not have is good: those look at temperature 1 and trip at or below.
 pub past-row : (b : List ℕ) (p : ℕ) → page_protections b ≤ p → row_at p ≡ row_with Temperature1 Below Silent
 past-row b p h = let least = least-protections b in row-past p (omega arith)
 
@@ -148,7 +132,7 @@ absent-unreached t = refl
 
 -- The settings of an accepted page are good.
 pub accepted-good : (b : List ℕ) → judged b ≡ Accepted → Good (settings_of b)
-unfolding settings_of rules_of
+unfolding settings_of rules_of limits_from
 accepted-good b e =
     let at : (i : ℕ) → i < 16 → InRange i (word_at b i) = accepted-inside b e in
     record {
@@ -165,6 +149,21 @@ accepted-good b e =
           (λ own. rw (limits-own b p own) (own-good b e p own))
           (λ past. rw (limits-past b p past h) (absent-good b p past));
     }
+  where
+    -- What an accepted page says of a protection that it has is good.
+    own-good : (b : List ℕ) → judged b ≡ Accepted → (p : ℕ) → p < page_protections b → GoodLimits (row_at p).direction (limits_from b p)
+    own-good b e p h =
+        let l : Limited b p = accepted-limits b e p h in
+        record {
+          n-least = l.n.0;
+          n-most = l.n.1;
+          m-least = l.m.0;
+          m-most = l.m.1;
+          mask-most = l.mask;
+          ordered =
+              level-order (row_at p).quantity (row_at p).direction (word_at b (trip_word p)) (word_at b (trip_word p + 1)) l.trip l.release
+              l.order;
+        }
 
 -- ---- what a load gives
 
