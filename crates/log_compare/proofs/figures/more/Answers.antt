@@ -1,7 +1,6 @@
 -- `log_compare::figures::more` meets its contract. Assumes nothing.
 use Rattle.log_compare.specs.Figures.{more}
 use Rattle.log_compare.specs.Equal.{more-room}
-use borrow.Author.Rules.{rules}
 use Rattle.log_compare.proofs.figures.more.Goals as goal
 
 pub overflow_add-result : goal.overflow_add-result

@@ -1,6 +1,5 @@
 -- `log_compare::figures::with_line` meets its contract. Assumes nothing.
 use Rattle.log_compare.specs.Equal.{line-is}
-use borrow.Author.Rules.{rules}
 use Rattle.log_compare.proofs.figures.with_line.Goals as goal
 
 pub returns : goal.returns

@@ -1,7 +1,6 @@
 -- `log_compare::pass::pass` meets its contract. Assumes nothing.
 use Rattle.log_lines.specs.Run.{feed-made}
 use Rattle.log_compare.specs.Pass.{next_both, no_text}
-use borrow.Author.Rules.{rules}
 use Rattle.log_compare.proofs.pass.pass.Goals as goal
 
 pub returns : goal.returns

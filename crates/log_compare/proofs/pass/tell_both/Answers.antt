@@ -1,6 +1,5 @@
 -- `log_compare::pass::tell_both` meets its contract. Assumes nothing.
 use Rattle.log_compare.specs.Pass.{told-both}
-use borrow.Author.Rules.{rules}
 use Rattle.log_compare.proofs.pass.tell_both.Goals as goal
 
 pub returns : goal.returns

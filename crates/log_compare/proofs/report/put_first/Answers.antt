@@ -1,6 +1,5 @@
 -- `log_compare::report::put_first` meets its contract. Assumes nothing.
 use Rattle.log_compare.specs.Report.{first-none, first-some}
-use borrow.Author.Rules.{rules}
 use Rattle.log_compare.proofs.report.put_first.Goals as goal
 
 pub returns-then-line-eq0 : goal.returns-then-line-eq0

@@ -1,6 +1,5 @@
 -- `log_compare::report::put_row` meets its contract. Assumes nothing.
 use Rattle.log_compare.specs.Report.{row-put}
-use borrow.Author.Rules.{rules}
 use Rattle.log_compare.proofs.report.put_row.Goals as goal
 
 pub returns : goal.returns

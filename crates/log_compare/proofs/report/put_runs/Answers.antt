@@ -1,7 +1,6 @@
 -- `log_compare::report::put_runs` meets its contract. Assumes nothing.
 use Rattle.log_compare.specs.Report.{runs_text, Front, front-room, front-on, runs-not, runs-end}
 use native.Mathlib.Omega.{arith}
-use borrow.Author.Rules.{rules}
 use Rattle.log_compare.proofs.report.put_runs.Goals as goal
 
 pub returns-then-out-lt-ROOM : goal.returns-then-out-lt-ROOM
