@@ -1,6 +1,5 @@
 -- `season_figures::add_accepted` meets its contract. Assumes nothing.
 use Rattle.season_figures.specs.Steps.{with_accepted}
-use borrow.Author.Rules.{rules}
 use Rattle.season_figures.proofs.add_accepted.Goals as goal
 
 pub returns : goal.returns

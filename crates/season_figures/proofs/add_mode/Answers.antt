@@ -1,7 +1,6 @@
 -- `season_figures::add_mode` meets its contract. Assumes nothing.
 use borrow.Author.Tests.{lt-ltb, le-ltb}
 use Rattle.season_figures.specs.Steps.{with_mode}
-use borrow.Author.Rules.{rules}
 use Rattle.season_figures.proofs.add_mode.Goals as goal
 
 pub returns-then-i-lt9 : goal.returns-then-i-lt9

@@ -1,9 +1,7 @@
 -- `season_figures::add_new` meets its contract
-use Prim.Native.Nat.{◌≤◌, ◌-◌}
 use mathlib.Core.Path.{◌≡◌, refl, sym}
 use Rattle.laws.specs.Each.{each_to}
-use Rattle.season_figures.specs.Steps.{with_new, with_new_to, new-same, new-next}
-use borrow.Author.Rules.{rules}
+use Rattle.season_figures.specs.Steps.{with_new, new-same, new-next}
 use native.Mathlib.Omega.{arith}
 use Rattle.season_figures.proofs.add_new.Goals as goal
 

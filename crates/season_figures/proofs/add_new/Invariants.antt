@@ -1,10 +1,7 @@
 -- `season_figures::add_new` meets its contract. The loop's invariant: the first i counters are stepped, the others are as they were. Assumes nothing.
 use Prim.Native.Nat.{◌≤◌, ◌-◌}
-use mathlib.Core.Path.{◌≡◌, refl, sym}
-use Rattle.laws.specs.Each.{each_to}
-use Rattle.season_figures.specs.Steps.{with_new, with_new_to, new-same, new-next}
-use borrow.Author.Rules.{rules}
-use native.Mathlib.Omega.{arith}
+use mathlib.Core.Path.{◌≡◌}
+use Rattle.season_figures.specs.Steps.{with_new_to}
 use Rattle.season_figures.proofs.add_new.Given as goal
 
 abbrev pub invariant-loop-i : goal.invariant-loop-i

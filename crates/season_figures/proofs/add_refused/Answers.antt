@@ -1,6 +1,5 @@
 -- `season_figures::add_refused` meets its contract. Assumes nothing.
 use Rattle.season_figures.specs.Steps.{with_refused}
-use borrow.Author.Rules.{rules}
 use Rattle.season_figures.proofs.add_refused.Goals as goal
 
 pub returns : goal.returns

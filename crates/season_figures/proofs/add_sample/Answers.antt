@@ -1,6 +1,5 @@
 -- `season_figures::add_sample` meets its contract. Assumes nothing.
 use Rattle.season_figures.specs.Steps.{with_sample}
-use borrow.Author.Rules.{rules}
 use Rattle.season_figures.proofs.add_sample.Goals as goal
 
 pub returns : goal.returns

@@ -1,5 +1,4 @@
 -- `season_figures::count_line` meets its contract. Assumes nothing.
-use borrow.Author.Rules.{rules}
 use Rattle.season_figures.proofs.count_line.Goals as goal
 
 pub returns-in-Offer : goal.returns-in-Offer

@@ -1,6 +1,5 @@
 -- `season_figures::is_new` meets its contract. Assumes nothing.
 use Rattle.season_figures.specs.Steps.{is_new}
-use borrow.Author.Rules.{rules}
 use Rattle.season_figures.proofs.is_new.Goals as goal
 
 pub returns-then-has_bit : goal.returns-then-has_bit

@@ -1,7 +1,6 @@
 -- `season_figures::more` meets its contract. Assumes nothing.
 use borrow.Author.Tests.{lt-ltb, le-ltb}
 use Rattle.season_figures.specs.Steps.{more}
-use borrow.Author.Rules.{rules}
 use Rattle.season_figures.proofs.more.Goals as goal
 
 pub returns-then-x-lt4294967295 : goal.returns-then-x-lt4294967295

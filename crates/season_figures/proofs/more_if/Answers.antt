@@ -1,6 +1,5 @@
 -- `season_figures::more_if` meets its contract. Assumes nothing.
 use Rattle.season_figures.specs.Steps.{more_if}
-use borrow.Author.Rules.{rules}
 use Rattle.season_figures.proofs.more_if.Goals as goal
 
 pub returns-then-on : goal.returns-then-on

@@ -1,7 +1,6 @@
 -- `season_figures::place_of` meets its contract. Assumes nothing.
 use borrow.Author.Tests.{lt-ltb, le-ltb}
 use Rattle.season_figures.specs.Steps.{place_of}
-use borrow.Author.Rules.{rules}
 use Rattle.season_figures.proofs.place_of.Goals as goal
 
 pub returns-then-mode-lt2 : goal.returns-then-mode-lt2
