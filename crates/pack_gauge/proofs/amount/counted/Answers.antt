@@ -1,5 +1,4 @@
 -- `pack_gauge::amount::counted` meets its contract. Assumes nothing.
-use borrow.Author.Rules.{rules}
 use Rattle.pack_gauge.proofs.amount.Sums.{widen-fits, sum-fits, sum-read, held-empty, held-full, held-fits, held-sum}
 use Rattle.pack_gauge.proofs.amount.counted.Goals as goal
 

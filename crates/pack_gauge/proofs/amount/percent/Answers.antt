@@ -1,5 +1,4 @@
 -- `pack_gauge::amount::percent` meets its contract. Assumes nothing.
-use borrow.Author.Rules.{rules}
 use mathlib.Core.Path.{refl}
 use Rattle.pack_gauge.specs.Amount.{percent_of}
 use Rattle.pack_gauge.specs.Exact.{percent-none}

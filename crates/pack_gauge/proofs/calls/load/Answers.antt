@@ -1,7 +1,6 @@
 -- `pack_gauge::calls::load` meets its contract. Assumes nothing.
 use Rattle.pack_gauge.specs.Ends.{load-fits, load-not, start-small}
 use native.Mathlib.Omega.{arith}
-use borrow.Author.Rules.{rules}
 use Rattle.pack_gauge.proofs.calls.load.Goals as goal
 
 pub overflow_cast-result : goal.overflow_cast-result
@@ -13,7 +12,7 @@ overflow_mul-result c = let k = start-small _ _ _ c.start_fits-ok.ensures c.if-o
     record { fits = omega (arith, k.1) }
 
 pub returns-then-ok : goal.returns-then-ok
-returns-then-ok c = let both = load-fits _ _ _ _ _ _ c.load-a.ensures.value c.start_fits-ok.ensures c.with_start-verdict.ensures c.if-ok.true in record { value = both.0; verdict_value = both.1; filled = both.2 }
+returns-then-ok c = let both = load-fits _ _ _ _ _ _ c.load-a.ensures.value c.start_fits-ok.ensures c.with_start-verdict.ensures c.if-ok.true in record { value = both.0; verdict_value = both.1.0; filled = both.1.1 }
 
 pub returns : goal.returns
-returns c = let both = load-not _ _ _ _ _ _ c.load-a.ensures.value c.start_fits-ok.ensures c.with_start-verdict.ensures c.if-ok.false in record { value = both.0; verdict_value = both.1; filled = both.2 }
+returns c = let both = load-not _ _ _ _ _ _ c.load-a.ensures.value c.start_fits-ok.ensures c.with_start-verdict.ensures c.if-ok.false in record { value = both.0; verdict_value = both.1.0; filled = both.1.1 }

@@ -1,5 +1,4 @@
 -- `pack_gauge::reply::must_wait` meets its contract. Assumes nothing.
-use mathlib.Core.Path.{refl}
 use Rattle.pack_gauge.specs.Replies.{waits}
 use Rattle.pack_gauge.proofs.reply.must_wait.Goals as goal
 

@@ -2,7 +2,6 @@
 use borrow.Author.Tests.{eq-eqb, ne_eqb}
 use Rattle.pack_gauge.specs.Replies.{gauge_word}
 use Rattle.pack_gauge.specs.Filled.{filled-percent, filled-whole}
-use borrow.Author.Rules.{rules}
 use Rattle.pack_gauge.proofs.reply.own_word.Goals as goal
 
 pub overflow_cast-result : goal.overflow_cast-result

@@ -3,7 +3,6 @@ use mathlib.Core.Path.{sym, ◌∙◌}
 use Rattle.bus_words.specs.Bounds.{kept-bounded}
 use Rattle.pack_gauge.specs.Filled.{filled-kept}
 use Rattle.pack_gauge.specs.Replies.{reply-waits, reply-own, reply-other}
-use borrow.Author.Rules.{rules}
 use Rattle.pack_gauge.proofs.reply.reply.Goals as goal
 
 pub returns-then-must_wait : goal.returns-then-must_wait
