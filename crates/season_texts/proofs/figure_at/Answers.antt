@@ -1,7 +1,6 @@
 -- `season_texts::figure_at` meets its contract. Assumes nothing.
 use borrow.Author.Tests.{lt-ltb, le-ltb, ne_eqb}
 use Rattle.season_texts.specs.Texts.{row_value}
-use borrow.Author.Rules.{rules}
 use Rattle.season_texts.proofs.figure_at.Goals as goal
 
 pub returns-then-j-eq0 : goal.returns-then-j-eq0

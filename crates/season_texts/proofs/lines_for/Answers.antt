@@ -1,7 +1,6 @@
 -- `season_texts::lines_for` meets its contract. Assumes nothing.
 use mathlib.Core.Path.{refl}
 use Rattle.season_texts.specs.Writing.{lines-few, lines-most}
-use borrow.Author.Rules.{rules}
 use Rattle.season_texts.proofs.lines_for.Goals as goal
 
 pub returns-then-n-lt10 : goal.returns-then-n-lt10

@@ -2,7 +2,6 @@
 use native.Mathlib.Omega.{arith}
 use Rattle.text_writing.specs.Rows.{put-room}
 use Rattle.season_texts.specs.Writing.{name-few, line-put}
-use borrow.Author.Rules.{rules}
 use Rattle.season_texts.proofs.put_line.Goals as goal
 
 pub put_value-requires : goal.put_value-requires

@@ -1,7 +1,6 @@
 -- `season_texts::put_mode` meets its contract. Assumes nothing.
 use Rattle.season_texts.specs.Texts.{mode_name}
 use Rattle.season_figures.specs.Logs.{mode_numbers}
-use borrow.Author.Rules.{rules}
 use Rattle.season_texts.proofs.put_mode.Goals as goal
 
 pub returns : goal.returns

@@ -1,7 +1,6 @@
 -- `season_texts::put_name` meets its contract. Assumes nothing.
 use borrow.Author.Tests.{lt-ltb, le-ltb, ne_eqb}
 use Rattle.season_texts.specs.Texts.{cell_name, row_name}
-use borrow.Author.Rules.{rules}
 use Rattle.season_texts.proofs.put_name.Goals as goal
 
 pub returns-then-j-eq0 : goal.returns-then-j-eq0

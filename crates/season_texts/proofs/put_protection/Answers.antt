@@ -1,7 +1,6 @@
 -- `season_texts::put_protection` meets its contract. Assumes nothing.
 use borrow.Author.Tests.{ne_eqb}
 use Rattle.season_texts.specs.Texts.{protection_name}
-use borrow.Author.Rules.{rules}
 use Rattle.season_texts.proofs.put_protection.Goals as goal
 
 pub returns-then-i-eq0 : goal.returns-then-i-eq0

@@ -1,12 +1,8 @@
 -- `season_texts::put_report` meets its contract
 use mathlib.Core.Path.{◌≡◌, refl, ◌∙◌}
-use Prim.Native.Nat.{ℕ, ◌-◌, ◌≤◌}
-use lib.ListN.{length}
 use Rattle.text_writing.specs.Putting.{put-length}
-use Rattle.season_texts.specs.Texts.{row_value, row_line, room}
-use Rattle.season_texts.specs.Lines.{Putting, putting-start, putting-place, putting-on}
+use Rattle.season_texts.specs.Lines.{putting-start, putting-place, putting-on}
 use Rattle.season_texts.specs.Writing.{row-few, report-short, report-made}
-use borrow.Author.Rules.{rules}
 use native.Mathlib.Omega.{arith}
 use Rattle.season_texts.proofs.put_report.Goals as goal
 

@@ -1,13 +1,9 @@
 -- `season_texts::put_report` meets its contract. The loop keeps: the first j lines stand in the buffer. Assumes nothing.
-use mathlib.Core.Path.{◌≡◌, refl, ◌∙◌}
+use mathlib.Core.Path.{◌≡◌}
 use Prim.Native.Nat.{ℕ, ◌-◌, ◌≤◌}
 use lib.ListN.{length}
-use Rattle.text_writing.specs.Putting.{put-length}
 use Rattle.season_texts.specs.Texts.{row_value, row_line, room}
-use Rattle.season_texts.specs.Lines.{Putting, putting-start, putting-place, putting-on}
-use Rattle.season_texts.specs.Writing.{row-few, report-short, report-made}
-use borrow.Author.Rules.{rules}
-use native.Mathlib.Omega.{arith}
+use Rattle.season_texts.specs.Lines.{Putting}
 use Rattle.season_texts.proofs.put_report.Given as goal
 
 abbrev pub invariant-loop-j : goal.invariant-loop-j

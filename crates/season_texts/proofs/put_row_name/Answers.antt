@@ -1,7 +1,6 @@
 -- `season_texts::put_row_name` meets its contract. Assumes nothing.
 use native.Mathlib.Omega.{arith}
 use Rattle.season_texts.specs.Writing.{name-short, name-made}
-use borrow.Author.Rules.{rules}
 use Rattle.season_texts.proofs.put_row_name.Goals as goal
 
 pub returns-then-out-lt29 : goal.returns-then-out-lt29

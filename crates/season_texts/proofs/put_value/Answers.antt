@@ -1,7 +1,6 @@
 -- `season_texts::put_value` meets its contract. Assumes nothing.
 use native.Mathlib.Omega.{arith}
 use Rattle.season_texts.specs.Writing.{value-put}
-use borrow.Author.Rules.{rules}
 use Rattle.season_texts.proofs.put_value.Goals as goal
 
 pub returns : goal.returns
