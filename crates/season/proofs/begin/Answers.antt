@@ -1,6 +1,5 @@
 -- `season::begin` meets its contract. Assumes nothing.
 use Rattle.season.specs.Taking.{begin_with}
-use borrow.Author.Rules.{rules}
 use Rattle.season.proofs.begin.Goals as goal
 
 pub returns : goal.returns

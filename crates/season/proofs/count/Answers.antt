@@ -2,7 +2,6 @@
 use Rattle.log_lines.specs.Run.{feed-made}
 use Rattle.season.specs.Taking.{next_season}
 use Rattle.season.specs.Chunks.{no_text}
-use borrow.Author.Rules.{rules}
 use Rattle.season.proofs.count.Goals as goal
 
 pub returns : goal.returns

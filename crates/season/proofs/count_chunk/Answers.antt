@@ -1,13 +1,8 @@
 -- `season::count_chunk` meets its contract
-use mathlib.Core.List.{[]}
-use Prim.Native.Nat.{◌-◌}
-use lib.ListN.{length}
-use Rattle.log_lines.specs.Chunk.{Going, going-start, going-done}
-use Rattle.pack.specs.Kept.{Kept}
+use Rattle.log_lines.specs.Chunk.{going-start, going-done}
 use Rattle.pack_log.specs.Next.{next-is}
 use Rattle.season.specs.Taking.{next_season}
 use Rattle.season.specs.Chunks.{no_text, count-on}
-use borrow.Author.Rules.{rules}
 use native.Mathlib.Omega.{arith}
 use Rattle.season.proofs.count_chunk.Goals as goal
 

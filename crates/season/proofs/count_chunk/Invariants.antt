@@ -2,13 +2,10 @@
 use mathlib.Core.List.{[]}
 use Prim.Native.Nat.{◌-◌}
 use lib.ListN.{length}
-use Rattle.log_lines.specs.Chunk.{Going, going-start, going-done}
+use Rattle.log_lines.specs.Chunk.{Going}
 use Rattle.pack.specs.Kept.{Kept}
-use Rattle.pack_log.specs.Next.{next-is}
 use Rattle.season.specs.Taking.{next_season}
-use Rattle.season.specs.Chunks.{no_text, count-on}
-use borrow.Author.Rules.{rules}
-use native.Mathlib.Omega.{arith}
+use Rattle.season.specs.Chunks.{no_text}
 use Rattle.season.proofs.count_chunk.Given as goal
 
 abbrev pub invariant-loop-n : goal.invariant-loop-n

@@ -1,6 +1,5 @@
 -- `season::take_entry` meets its contract. Assumes nothing.
 use Rattle.season.specs.Taking.{take-past, take-counts}
-use borrow.Author.Rules.{rules}
 use Rattle.season.proofs.take_entry.Goals as goal
 
 pub returns-then-s-eq0 : goal.returns-then-s-eq0
