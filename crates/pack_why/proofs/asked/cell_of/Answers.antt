@@ -1,7 +1,6 @@
 -- `pack_why::asked::cell_of` meets its contract. Assumes nothing.
 use borrow.Author.Tests.{lt-ltb, le-ltb}
 use Rattle.pack_why.specs.Asked.{cell_of}
-use borrow.Author.Rules.{rules}
 use Rattle.pack_why.proofs.asked.cell_of.Goals as goal
 
 pub returns-then-v-lt256 : goal.returns-then-v-lt256

@@ -1,9 +1,6 @@
 -- `pack_why::asked::same_text` meets its contract: what is left of the texts is the same exactly if the texts are. Assumes nothing.
-use mathlib.Core.Path.{◌≡◌, refl, sym, ◌∙◌}
-use Prim.Native.Nat.{◌-◌, ◌≤◌}
-use lib.ListN.{length, drop}
-use Rattle.pack_why.specs.Asked.{same_text, same-length, same-differs, same-goes-on, same-ends}
-use borrow.Author.Rules.{rules}
+use mathlib.Core.Path.{refl, sym, ◌∙◌}
+use Rattle.pack_why.specs.Asked.{same-length, same-differs, same-goes-on, same-ends}
 use native.Mathlib.Omega.{arith}
 use Rattle.pack_why.proofs.asked.same_text.Goals as goal
 

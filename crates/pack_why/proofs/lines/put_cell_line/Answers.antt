@@ -1,7 +1,6 @@
 -- `pack_why::lines::put_cell_line` meets its contract. Assumes nothing.
 use Rattle.pack_why.specs.Lines.{room-behind, cell-put}
 use native.Mathlib.Omega.{arith}
-use borrow.Author.Rules.{rules}
 use Rattle.pack_why.proofs.lines.put_cell_line.Goals as goal
 
 pub put_cell_reason-requires : goal.put_cell_reason-requires

@@ -1,12 +1,8 @@
 -- `pack_why::lines::put_cell_lines` meets its contract
-use mathlib.Core.Path.{◌≡◌, refl, ◌∙◌}
-use Prim.Native.Nat.{◌+◌, ◌-◌, ◌≤◌}
-use lib.ListN.{length}
+use mathlib.Core.Path.{refl, ◌∙◌}
 use Rattle.text_writing.specs.Putting.{put-length}
-use Rattle.pack.specs.Kept.{Kept}
 use Rattle.pack_why.specs.Steps.{kept-ten}
-use Rattle.pack_why.specs.Lines.{Putting, putting-start, putting-place, putting-on, putting-end}
-use borrow.Author.Rules.{rules}
+use Rattle.pack_why.specs.Lines.{putting-start, putting-place, putting-on, putting-end}
 use native.Mathlib.Omega.{arith}
 use Rattle.pack_why.proofs.lines.put_cell_lines.Goals as goal
 

@@ -1,13 +1,9 @@
 -- `pack_why::lines::put_cell_lines` meets its contract. The loop keeps: the lines of the first k cells stand in the buffer. Assumes nothing.
-use mathlib.Core.Path.{◌≡◌, refl, ◌∙◌}
+use mathlib.Core.Path.{◌≡◌}
 use Prim.Native.Nat.{◌+◌, ◌-◌, ◌≤◌}
 use lib.ListN.{length}
-use Rattle.text_writing.specs.Putting.{put-length}
 use Rattle.pack.specs.Kept.{Kept}
-use Rattle.pack_why.specs.Steps.{kept-ten}
-use Rattle.pack_why.specs.Lines.{Putting, putting-start, putting-place, putting-on, putting-end}
-use borrow.Author.Rules.{rules}
-use native.Mathlib.Omega.{arith}
+use Rattle.pack_why.specs.Lines.{Putting}
 use Rattle.pack_why.proofs.lines.put_cell_lines.Given as goal
 
 abbrev pub invariant-loop-k : goal.invariant-loop-k

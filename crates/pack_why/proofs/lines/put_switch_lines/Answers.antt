@@ -1,7 +1,6 @@
 -- `pack_why::lines::put_switch_lines` meets its contract. Assumes nothing.
 use Rattle.pack_why.specs.Lines.{room-behind, switches-put}
 use native.Mathlib.Omega.{arith}
-use borrow.Author.Rules.{rules}
 use Rattle.pack_why.proofs.lines.put_switch_lines.Goals as goal
 
 pub put_switch_line-requires : goal.put_switch_line-requires

@@ -1,7 +1,6 @@
 -- `pack_why::lines::put_why` meets its contract. Assumes nothing.
 use Rattle.pack_why.specs.Lines.{roomed-not, room-behind, why-put}
 use native.Mathlib.Omega.{arith}
-use borrow.Author.Rules.{rules}
 use Rattle.pack_why.proofs.lines.put_why.Goals as goal
 
 pub returns-then-out-lt-ROOM : goal.returns-then-out-lt-ROOM

@@ -3,7 +3,6 @@ use mathlib.Core.Path.{sym, ◌∙◌}
 use mir.Syntax.{w16}
 use mir.Facts.{to_z-of_z}
 use Rattle.pack_why.specs.Steps.{charge-none, charge-raised, charge-on}
-use borrow.Author.Rules.{rules}
 use Rattle.pack_why.proofs.reasons.from_charge.Goals as goal
 
 pub returns-then-first-lt-PROTECTIONS : goal.returns-then-first-lt-PROTECTIONS

@@ -1,6 +1,5 @@
 -- `pack_why::reasons::from_floor` meets its contract. Assumes nothing.
 use Rattle.pack_why.specs.Steps.{floor-low, floor-near, floor-on}
-use borrow.Author.Rules.{rules}
 use Rattle.pack_why.proofs.reasons.from_floor.Goals as goal
 
 pub returns-then-volts-rules : goal.returns-then-volts-rules

@@ -1,7 +1,6 @@
 -- `pack_why::reasons::from_rest` meets its contract. Assumes nothing.
 use mathlib.Core.Path.{sym, ◌∙◌}
 use Rattle.pack_why.specs.Steps.{rest-resting, rest-full, rest-on}
-use borrow.Author.Rules.{rules}
 use Rattle.pack_why.proofs.reasons.from_rest.Goals as goal
 
 pub returns-then-has_bit : goal.returns-then-has_bit

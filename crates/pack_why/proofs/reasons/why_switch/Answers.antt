@@ -1,7 +1,6 @@
 -- `pack_why::reasons::why_switch` meets its contract. Assumes nothing.
 use mathlib.Core.Path.{sym, ◌∙◌}
 use Rattle.pack_why.specs.Steps.{switch-early, switch-not, switch-blocked, switch-on}
-use borrow.Author.Rules.{rules}
 use Rattle.pack_why.proofs.reasons.why_switch.Goals as goal
 
 pub returns-then-first-lt-PROTECTIONS : goal.returns-then-first-lt-PROTECTIONS
