@@ -2,7 +2,6 @@
 use mathlib.Core.Path.{sym, ap, ◌∙◌}
 use native.Mathlib.Omega.{arith}
 use Rattle.season_sum.specs.Reading.{long_of, figure-short, figure-unlike, figure-untabbed, figure-part}
-use borrow.Author.Rules.{rules}
 use Rattle.season_sum.proofs.figure_in.Goals as goal
 
 pub returns-then-line-n : goal.returns-then-line-n

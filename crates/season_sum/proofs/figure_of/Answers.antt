@@ -6,7 +6,6 @@ use native.Mathlib.Omega.{arith}
 use lib.ListN.{length-take}
 use Rattle.season_sum.specs.Reading.{long_of, line_value}
 use Rattle.season_sum.specs.Names.{name-front}
-use borrow.Author.Rules.{rules}
 use Rattle.season_sum.proofs.figure_of.Goals as goal
 
 pub slice_bounds-figure_in-end : goal.slice_bounds-figure_in-end

@@ -1,10 +1,6 @@
 -- `season_sum::long_digits` meets its contract
-use Prim.Native.Nat.{◌-◌, ◌≤◌}
-use mathlib.Core.Path.{◌≡◌, refl, sym, ap, ◌∙◌}
-use lib.ListN.{length, drop}
-use Rattle.text_numbers.specs.Numbers.{digits_to}
+use mathlib.Core.Path.{refl, sym, ap, ◌∙◌}
 use Rattle.season_sum.specs.Reading.{long_of, low, high, large, turn, over}
-use borrow.Author.Rules.{rules}
 use native.Mathlib.Omega.{arith}
 use Rattle.season_sum.proofs.long_digits.Goals as goal
 

@@ -1,11 +1,8 @@
 -- `season_sum::long_digits` meets its contract. The loop's invariant: the digits that are left, behind the number so far, are read as the whole field is. Assumes nothing.
 use Prim.Native.Nat.{◌-◌, ◌≤◌}
-use mathlib.Core.Path.{◌≡◌, refl, sym, ap, ◌∙◌}
+use mathlib.Core.Path.{◌≡◌}
 use lib.ListN.{length, drop}
 use Rattle.text_numbers.specs.Numbers.{digits_to}
-use Rattle.season_sum.specs.Reading.{long_of, low, high, large, turn, over}
-use borrow.Author.Rules.{rules}
-use native.Mathlib.Omega.{arith}
 use Rattle.season_sum.proofs.long_digits.Given as goal
 
 abbrev pub invariant-loop-i : goal.invariant-loop-i

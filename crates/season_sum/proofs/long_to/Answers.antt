@@ -3,7 +3,6 @@ use mathlib.Core.Path.{sym, ap, ◌∙◌}
 use native.Mathlib.Omega.{arith}
 use Rattle.text_numbers.specs.Canonical.{number-empty, number-single, number-zero, number-other}
 use Rattle.season_sum.specs.Reading.{long_of}
-use borrow.Author.Rules.{rules}
 use Rattle.season_sum.proofs.long_to.Goals as goal
 
 pub returns-then-field-eq0 : goal.returns-then-field-eq0

@@ -1,9 +1,6 @@
 -- `season_sum::starts` meets its contract
-use Prim.Native.Nat.{◌-◌, ◌≤◌}
-use mathlib.Core.Path.{◌≡◌, refl, sym, ◌∙◌}
-use lib.ListN.{length, drop}
-use Rattle.season_sum.specs.Reading.{starts, starts-none, starts-turn, starts-unlike, starts-all}
-use borrow.Author.Rules.{rules}
+use mathlib.Core.Path.{refl, sym, ◌∙◌}
+use Rattle.season_sum.specs.Reading.{starts-none, starts-turn, starts-unlike, starts-all}
 use native.Mathlib.Omega.{arith}
 use Rattle.season_sum.proofs.starts.Goals as goal
 

@@ -1,10 +1,8 @@
 -- `season_sum::starts` meets its contract. The loop's invariant: what is left of both is compared as the whole is. Assumes nothing.
 use Prim.Native.Nat.{◌-◌, ◌≤◌}
-use mathlib.Core.Path.{◌≡◌, refl, sym, ◌∙◌}
+use mathlib.Core.Path.{◌≡◌}
 use lib.ListN.{length, drop}
-use Rattle.season_sum.specs.Reading.{starts, starts-none, starts-turn, starts-unlike, starts-all}
-use borrow.Author.Rules.{rules}
-use native.Mathlib.Omega.{arith}
+use Rattle.season_sum.specs.Reading.{starts}
 use Rattle.season_sum.proofs.starts.Given as goal
 
 abbrev pub invariant-loop-i : goal.invariant-loop-i
