@@ -1,6 +1,5 @@
 -- `pack_numbers::call_of` meets its contract. Assumes nothing.
 use Rattle.pack_numbers.specs.Calls.{call_of}
-use borrow.Author.Rules.{rules}
 use Rattle.pack_numbers.proofs.call_of.Goals as goal
 
 pub returns : goal.returns

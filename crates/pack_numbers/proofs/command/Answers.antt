@@ -1,14 +1,12 @@
 -- `pack_numbers::command` meets its contract. Assumes nothing.
-use borrow.Author.Tests.{not-true, not-false}
 use Rattle.pack_numbers.specs.Calls.{commanded_numbers}
-use borrow.Author.Rules.{rules}
 use Rattle.pack_numbers.proofs.command.Goals as goal
 
 pub returns-then-not-is_pack : goal.returns-then-not-is_pack
 unfolding commanded_numbers
-returns-then-not-is_pack c = rw (← c.is_pack.ensures, not-true c.is_pack.result c.if-not-is_pack.true) c.not_pack.ensures
+returns-then-not-is_pack c = rw (← c.is_pack.ensures, c.if-not-is_pack.true) c.not_pack.ensures
 
 pub returns : goal.returns
 unfolding commanded_numbers
-returns c = rw (← c.is_pack.ensures, not-false c.is_pack.result c.if-not-is_pack.false, ← c.pack_of-p.ensures.0, ← c.command_any-a.ensures)
+returns c = rw (← c.is_pack.ensures, c.if-not-is_pack.false, ← c.pack_of-p.ensures.0, ← c.command_any-a.ensures)
     c.call_of.ensures

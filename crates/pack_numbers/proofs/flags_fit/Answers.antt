@@ -1,9 +1,7 @@
 -- `pack_numbers::flags_fit` meets its contract. Assumes nothing.
 use mathlib.Core.Path.{◌≡◌, refl}
-use Prim.Native.Nat.{◌≤◌, ◌-◌}
 use Rattle.protections.specs.Table.{protections}
 use Rattle.pack_numbers.specs.Numbers.{flags_to, flags-next}
-use borrow.Author.Rules.{rules}
 use native.Mathlib.Omega.{arith}
 use Rattle.pack_numbers.proofs.flags_fit.Goals as goal
 

@@ -1,10 +1,8 @@
 -- `pack_numbers::flags_fit` meets its contract. Assumes nothing.
-use mathlib.Core.Path.{◌≡◌, refl}
+use mathlib.Core.Path.{◌≡◌}
 use Prim.Native.Nat.{◌≤◌, ◌-◌}
 use Rattle.protections.specs.Table.{protections}
-use Rattle.pack_numbers.specs.Numbers.{flags_to, flags-next}
-use borrow.Author.Rules.{rules}
-use native.Mathlib.Omega.{arith}
+use Rattle.pack_numbers.specs.Numbers.{flags_to}
 use Rattle.pack_numbers.proofs.flags_fit.Given as goal
 
 abbrev pub invariant-loop-i : goal.invariant-loop-i

@@ -1,12 +1,9 @@
 -- `pack_numbers::guards_of` meets its contract. Assumes nothing.
-use mathlib.Core.Path.{◌≡◌, refl, ◌∙◌}
+use mathlib.Core.Path.{◌≡◌}
 use Prim.Native.Nat.{◌≤◌, ◌-◌}
 use lib.ListN.{length}
-use Rattle.laws.specs.Each.{each_to}
 use Rattle.protections.specs.Table.{protections}
-use Rattle.pack_numbers.specs.Numbers.{guards_to, guards-next, guards-are}
-use borrow.Author.Rules.{rules}
-use native.Mathlib.Omega.{arith}
+use Rattle.pack_numbers.specs.Numbers.{guards_to}
 use Rattle.pack_numbers.proofs.guards_of.Given as goal
 
 abbrev pub invariant-loop-i : goal.invariant-loop-i

@@ -1,6 +1,5 @@
 -- `pack_numbers::load` meets its contract. Assumes nothing.
 use Rattle.pack_numbers.specs.Calls.{loaded_numbers}
-use borrow.Author.Rules.{rules}
 use Rattle.pack_numbers.proofs.load.Goals as goal
 
 pub returns : goal.returns

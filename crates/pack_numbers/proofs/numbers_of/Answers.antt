@@ -1,6 +1,5 @@
 -- `pack_numbers::numbers_of` meets its contract. Assumes nothing.
 use Rattle.pack_numbers.specs.Numbers.{numbers_of}
-use borrow.Author.Rules.{rules}
 use Rattle.pack_numbers.proofs.numbers_of.Goals as goal
 
 pub returns : goal.returns

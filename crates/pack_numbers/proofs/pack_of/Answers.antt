@@ -1,6 +1,5 @@
 -- `pack_numbers::pack_of` meets its contract. Assumes nothing.
 use Rattle.pack_numbers.specs.Numbers.{pack_of}
-use borrow.Author.Rules.{rules}
 use Rattle.pack_numbers.proofs.pack_of.Goals as goal
 
 pub returns : goal.returns

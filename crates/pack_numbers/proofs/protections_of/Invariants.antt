@@ -1,12 +1,9 @@
 -- `pack_numbers::protections_of` meets its contract. Assumes nothing.
-use mathlib.Core.Path.{◌≡◌, refl, ◌∙◌}
+use mathlib.Core.Path.{◌≡◌}
 use Prim.Native.Nat.{◌≤◌, ◌-◌}
 use lib.ListN.{length}
-use Rattle.laws.specs.Each.{each_to}
 use Rattle.protections.specs.Table.{protections}
-use Rattle.pack_numbers.specs.Numbers.{protections_to, protections-next, protections-are}
-use borrow.Author.Rules.{rules}
-use native.Mathlib.Omega.{arith}
+use Rattle.pack_numbers.specs.Numbers.{protections_to}
 use Rattle.pack_numbers.proofs.protections_of.Given as goal
 
 abbrev pub invariant-loop-i : goal.invariant-loop-i

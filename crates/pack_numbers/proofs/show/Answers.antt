@@ -1,13 +1,11 @@
 -- `pack_numbers::show` meets its contract. Assumes nothing.
 use mathlib.Core.Path.{sym, ◌∙◌}
-use borrow.Author.Tests.{not-true, not-false}
 use Rattle.pack_numbers.specs.Calls.{shown_of, shown-yes, shown-no}
-use borrow.Author.Rules.{rules}
 use Rattle.pack_numbers.proofs.show.Goals as goal
 
 pub returns-then-not-is_pack : goal.returns-then-not-is_pack
-returns-then-not-is_pack c = c.not_shown.ensures ∙ shown-no _ (sym c.is_pack.ensures ∙ not-true c.is_pack.result c.if-not-is_pack.true)
+returns-then-not-is_pack c = c.not_shown.ensures ∙ shown-no _ (sym c.is_pack.ensures ∙ c.if-not-is_pack.true)
 
 pub returns : goal.returns
 unfolding shown_of
-returns c = shown-yes _ _ _ (sym c.is_pack.ensures ∙ not-false c.is_pack.result c.if-not-is_pack.false) c.pack_of-p.ensures.0 c.decide-d.ensures
+returns c = shown-yes _ _ _ (sym c.is_pack.ensures ∙ c.if-not-is_pack.false) c.pack_of-p.ensures.0 c.decide-d.ensures
