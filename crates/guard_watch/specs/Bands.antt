@@ -1,5 +1,5 @@
--- The bands: for each quantity the values at which no protection that looks at it moves. They are no part of document 01: the laws of BandLaws
--- say what they are good for.
+-- The bands: for each quantity the values at which no protection that looks at it moves. They are no part of document 01: the laws of
+-- proofs/BandLaws.antt say what they are good for.
 -- Assumes nothing.
 use Rattle.std.specs.Prelude.{Bool, cond, not, ◌&&◌, List, ℕ, zero, suc, eqb, ℤ, pos, negsuc, get_or, set, replicate}
 use Rattle.std.specs.Int.Signed.{lt_z}

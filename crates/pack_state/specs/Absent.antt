@@ -12,7 +12,7 @@ use Rattle.protections.specs.declared.Quantity.TheVariants.{Temperature1}
 use Rattle.sample.specs.declared.Sample.{Sample}
 use Rattle.sample.specs.Measure.{measure}
 use Rattle.guard.specs.Steps.{raised}
-use Rattle.guard.specs.StepLaws.{raised-never}
+use Rattle.guard.proofs.StepLaws.{raised-never}
 use Rattle.guard_raised.specs.Words.{raised_after, raised_word_after, any_raised_after, blocks_after}
 use Rattle.guard_raised.specs.Words.{raised_word_after-short, any_raised_after-short, blocks_after-short}
 use Rattle.page_settings.specs.Settings.{page_protections, absent, limits_of}

@@ -14,7 +14,7 @@ use Rattle.sample.specs.Cells.{extremes_of}
 use Rattle.guard.specs.declared.rule.Protection.{Protection}
 use Rattle.protections.specs.Limits.{AllGood}
 use Rattle.guard.specs.Steps.{protections_after}
-use Rattle.guard.specs.StepLaws.{protections-step}
+use Rattle.guard.proofs.StepLaws.{protections-step}
 use Rattle.guard_raised.specs.Words.{any_raised, any_raised-is}
 use Rattle.guard_watch.specs.Watch.{watch_of}
 use Rattle.page_settings.specs.declared.Settings.{Settings}

@@ -2,7 +2,7 @@
 use mathlib.Core.Path.{◌≡◌, refl}
 use Rattle.protections.specs.Table.{protections}
 use Rattle.guard_watch.specs.Bands.{bands_to}
-use Rattle.guard_watch.specs.BandLaws.{bands-next}
+use Rattle.guard_watch.proofs.BandLaws.{bands-next}
 use native.Mathlib.Omega.{arith}
 use Rattle.guard_watch.proofs.bands_of.Goals as goal
 

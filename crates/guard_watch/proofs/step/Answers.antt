@@ -1,7 +1,7 @@
 -- `guard_watch::step` meets its contract. Assumes nothing.
 use Rattle.guard_watch.specs.Watch.{watch_of, guarded_by}
 use Rattle.guard_watch.specs.Bands.{is_calm}
-use Rattle.guard_watch.specs.BandLaws.{calm-stays}
+use Rattle.guard_watch.proofs.BandLaws.{calm-stays}
 use Rattle.guard.specs.Steps.{step_all}
 use mathlib.Core.Path.{◌≡◌, sym, ◌∙◌}
 use mathlib.Core.Bool.{true}

@@ -1,4 +1,5 @@
--- A sample that is inside every band moves no protection.
+-- A sample that is inside every band moves no protection. The laws stand in proofs/ and not beside the definitions of specs/Bands.antt: an edit
+-- that makes one of those wrong is then refused by them.
 -- Assumes nothing.
 use Rattle.std.specs.Prelude.{◌≡◌, refl, Bool, true, false, not, ◌&&◌, List, T, eqb, ℤ, pos, negsuc, ◌≤ℤ◌, get_or}
 use Rattle.std.proofs.Math.Path.{sym, ap}
