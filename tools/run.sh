@@ -193,7 +193,8 @@ crates_under() { # NAME..
 is_program() { [ -f "$here/crates/$1/src/main.rt" ]; } # NAME
 is_archive() { grep -q "^$1 *staticlib *:" "$here/crates.txt"; } # NAME
 
-# The names of all programs.
+# The names of all archives, and of all programs.
+all_archives() { sed -n 's/^\([a-z0-9_]*\) *staticlib *:.*/ \1/p' "$here/crates.txt" | tr -d '\n'; }
 all_programs() {
     for main in "$here"/crates/*/src/main.rt; do
         main=${main#"$here/crates/"}
