@@ -1,6 +1,6 @@
 -- Who wants, the mode and the words on the bus, by the page's own words and by what is shown, after any load and any calls.
 -- Assumes nothing.
-use Rattle.std.specs.Prelude.{◌≡◌, refl, Bool, false, ℕ, ◌*◌, eqb}
+use Rattle.std.specs.Prelude.{◌≡◌, Bool, false, ℕ, ◌*◌, eqb}
 use Rattle.std.proofs.Math.Path.{sym, ap}
 use Rattle.std.proofs.Common.{◌∙◌}
 use Rattle.std.proofs.Math.Bool.{not, cond}

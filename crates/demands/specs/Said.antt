@@ -1,7 +1,7 @@
 -- "`F` has the command; `S` has current, temperature 1, temperature 2 and the cells": fields that are the texts of numbers in range are read as these
 -- numbers, whichever they are. There is no other reason to call them malformed.
 -- Assumes nothing.
-use Rattle.std.specs.Prelude.{◌≡◌, refl, List, [], ◌∷◌, map, ℕ, suc, ◌+◌, ◌≤◌, ℤ, length, replicate, set}
+use Rattle.std.specs.Prelude.{◌≡◌, List, [], ◌∷◌, map, ℕ, suc, ◌+◌, ◌≤◌, ℤ, length, replicate, set}
 use Rattle.std.proofs.Common.{ap, ◌∙◌, arith, lt-ltb}
 use Rattle.units.specs.declared.MilliVolts.{MilliVolts}
 use Rattle.sample.specs.Cells.{no_volts}
