@@ -1,13 +1,12 @@
 -- `gauge_log::ends::put_refusal` meets its contract. Assumes nothing.
 use Rattle.gauge_log.specs.Ends.{start-put, page-put, accepted-put}
-use borrow.Author.Rules.{rules}
 use Rattle.gauge_log.proofs.ends.put_refusal.Goals as goal
 
 pub returns-then-number-eq22 : goal.returns-then-number-eq22
-returns-then-number-eq22 c = let both = start-put _ _ _ c.verdict-1.given.1 c.if-number-eq22.true c.put_told.ensures.put in record { put = both.0; upper_bound = both.1 }
+returns-then-number-eq22 c = let both = start-put _ _ _ c.in-Refused.is c.if-number-eq22.true c.put_told.ensures.put in record { put = both.0; upper_bound = both.1 }
 
 pub returns-in-Accepted : goal.returns-in-Accepted
-returns-in-Accepted c = let both = accepted-put _ _ c.enum_told-1.given.1 in record { put = both.0; upper_bound = both.1 }
+returns-in-Accepted c = let both = accepted-put _ _ c.in-Accepted.is in record { put = both.0; upper_bound = both.1 }
 
 pub returns-else-number-eq22 : goal.returns-else-number-eq22
-returns-else-number-eq22 c = let both = page-put _ _ _ c.verdict-1.given.1 c.if-number-eq22.false c.put_opening.ensures.put in record { put = both.0; upper_bound = both.1 }
+returns-else-number-eq22 c = let both = page-put _ _ _ c.in-Refused.is c.if-number-eq22.false c.put_opening.ensures.put in record { put = both.0; upper_bound = both.1 }

@@ -1,6 +1,5 @@
 -- `gauge_log::lines::put_line` meets its contract. Assumes nothing.
 use Rattle.gauge_log.specs.Lines.{gauge-put}
-use borrow.Author.Rules.{rules}
 use Rattle.gauge_log.proofs.lines.put_line.Goals as goal
 
 pub returns : goal.returns

@@ -1,13 +1,9 @@
 -- `gauge_log::lines::put_words` meets its contract
 use mathlib.Core.Path.{◌≡◌, refl, ◌∙◌}
-use Prim.Native.Nat.{◌-◌, ◌%◌, ◌≤◌}
-use lib.ListN.{length}
+use Prim.Native.Nat.{◌%◌}
 use Rattle.text_writing.specs.Putting.{put-length}
-use Rattle.pack_gauge.specs.Filled.{Filled}
-use Rattle.gauge_log.specs.Lines.{gauge_line}
-use Rattle.bus_lines.specs.Lines.{room, Putting, putting-start, putting-place, putting-on, putting-end, roomed-not}
+use Rattle.bus_lines.specs.Lines.{putting-start, putting-place, putting-on, putting-end, roomed-not}
 use native.Mathlib.Omega.{arith}
-use borrow.Author.Rules.{rules}
 use Rattle.gauge_log.proofs.lines.put_words.Goals as goal
 
 pub returns-then-out-lt-ROOM : goal.returns-then-out-lt-ROOM

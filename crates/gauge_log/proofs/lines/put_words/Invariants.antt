@@ -1,13 +1,10 @@
 -- `gauge_log::lines::put_words` meets its contract. The loop keeps: the lines of the first c commands stand in the buffer. Assumes nothing.
-use mathlib.Core.Path.{◌≡◌, refl, ◌∙◌}
-use Prim.Native.Nat.{◌-◌, ◌%◌, ◌≤◌}
+use mathlib.Core.Path.{◌≡◌}
+use Prim.Native.Nat.{◌-◌, ◌≤◌}
 use lib.ListN.{length}
-use Rattle.text_writing.specs.Putting.{put-length}
 use Rattle.pack_gauge.specs.Filled.{Filled}
 use Rattle.gauge_log.specs.Lines.{gauge_line}
-use Rattle.bus_lines.specs.Lines.{room, Putting, putting-start, putting-place, putting-on, putting-end, roomed-not}
-use native.Mathlib.Omega.{arith}
-use borrow.Author.Rules.{rules}
+use Rattle.bus_lines.specs.Lines.{room, Putting}
 use Rattle.gauge_log.proofs.lines.put_words.Given as goal
 
 abbrev pub invariant-loop-c : goal.invariant-loop-c

@@ -1,7 +1,6 @@
 -- `gauge_log::pass::pass` meets its contract. Assumes nothing.
 use Rattle.log_lines.specs.Run.{feed-made}
 use Rattle.gauge_log.specs.Pass.{next_metered, no_text}
-use borrow.Author.Rules.{rules}
 use Rattle.gauge_log.proofs.pass.pass.Goals as goal
 
 pub returns : goal.returns

@@ -1,12 +1,7 @@
 -- `gauge_log::pass::pass_chunk` meets its contract. Assumes nothing.
-use mathlib.Core.List.{[]}
-use Prim.Native.Nat.{◌-◌}
-use lib.ListN.{length}
-use Rattle.log_lines.specs.Chunk.{Going, going-start, going-done}
-use Rattle.pack_gauge.specs.Filled.{Filled}
+use Rattle.log_lines.specs.Chunk.{going-start, going-done}
 use Rattle.pack_log.specs.Next.{next-is}
 use Rattle.gauge_log.specs.Pass.{next_metered, no_text, pass-on}
-use borrow.Author.Rules.{rules}
 use native.Mathlib.Omega.{arith}
 use Rattle.gauge_log.proofs.pass.pass_chunk.Goals as goal
 

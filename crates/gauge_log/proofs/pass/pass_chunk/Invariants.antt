@@ -2,12 +2,9 @@
 use mathlib.Core.List.{[]}
 use Prim.Native.Nat.{◌-◌}
 use lib.ListN.{length}
-use Rattle.log_lines.specs.Chunk.{Going, going-start, going-done}
+use Rattle.log_lines.specs.Chunk.{Going}
 use Rattle.pack_gauge.specs.Filled.{Filled}
-use Rattle.pack_log.specs.Next.{next-is}
-use Rattle.gauge_log.specs.Pass.{next_metered, no_text, pass-on}
-use borrow.Author.Rules.{rules}
-use native.Mathlib.Omega.{arith}
+use Rattle.gauge_log.specs.Pass.{next_metered, no_text}
 use Rattle.gauge_log.proofs.pass.pass_chunk.Given as goal
 
 abbrev pub invariant-loop-n : goal.invariant-loop-n
