@@ -12,12 +12,13 @@ use Rattle.pack_state.specs.declared.Pack.{Pack}
 use Rattle.pack.specs.Events.{Event}
 use Rattle.pack_state.specs.State.{state_after}
 use Rattle.pack.specs.Kept.{page_of, past_after, pack_after}
-use Rattle.pack.specs.After.{after, after-is}
+use Rattle.pack.specs.After.{after}
+use Rattle.pack.proofs.After.{after-is}
 use Rattle.bus.specs.declared.answer.Replied.{Replied}
 use Rattle.bus.specs.declared.answer.Replied.TheVariants.{Sent, Refused}
 use Rattle.bus_table.specs.Table.{row_of_command}
 use Rattle.bus_words.specs.Words.{sent_word, said_of}
-use Rattle.bus_words.specs.Demands.{word-is}
+use Rattle.bus_words.proofs.Demands.{word-is}
 use Rattle.bus.specs.Replies.{reply_refusals, answer_for, frame_of, bytes_of, bytes_for, answer_after, buffer_after, answer_to, buffer_of}
 
 -- ---- after any load and calls

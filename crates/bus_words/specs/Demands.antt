@@ -1,43 +1,36 @@
--- DEMAND 2 ON THE BUS, the words: after a load of any bytes and any events since, the word of each command is what document 01 says of
--- the page and the past.
+-- What single words say: the bits of 0x45, the bled cells, the bytes of 0x47. DEMAND 2 ON THE BUS, the words, is shown in proofs/Demands.antt.
 -- Assumes nothing.
-use Rattle.std.specs.Prelude.{◌≡◌, Bool, true, false, List, ℕ, zero, suc, ◌-◌, ◌%◌, ◌/◌, ◌≤◌, ◌<◌}
+use Rattle.std.specs.Prelude.{◌≡◌, Bool, true, false, List, ℕ, zero, suc, ◌%◌, ◌/◌, ◌≤◌, ◌<◌}
 use Rattle.std.proofs.Math.Path.{refl, ap}
-use Rattle.std.proofs.Common.{◌∙◌, lit<, lt-ltb, le-ltb}
+use Rattle.std.proofs.Common.{◌∙◌, lit<, lt-ltb}
 use native.Mathlib.Omega.{arith}
 use Rattle.std.specs.Int.Count.{ones}
-use Rattle.laws.specs.Tests.{by-order}
 use Rattle.laws.specs.Bits.{has_bit, with_bit, with_bit_if}
 use Rattle.units.specs.declared.MilliVolts.{MilliVolts}
 use Rattle.units.specs.Cells.{ten_at_most, ten-most}
-use Rattle.laws.specs.Words.{bits-same, bits-has, bits-past}
+use Rattle.laws.specs.Words.{bits-has, bits-past}
 use Rattle.units.specs.Signed.{word_of, word-signed}
-use Rattle.protections.specs.Table.{protections}
 use Rattle.page_words.specs.Ranges.{word_at}
 use Rattle.page_judge.specs.Page.{judged}
 use Rattle.page_judge.specs.Accepted.{accepted-inside}
 use Rattle.refusals.specs.declared.Verdict.TheVariants.{Accepted}
-use Rattle.guard_raised.specs.Words.{raised_after, blocks_any-is, raised_word_after-has}
+use Rattle.guard_raised.specs.Words.{raised_after}
 use Rattle.page_settings.specs.declared.Settings.{Settings}
 use Rattle.page_settings.specs.Settings.{rules_of, settings_of}
 use Rattle.bleed.proofs.Walk.Balance.{bled-few}
-use Rattle.pack_state.specs.declared.Pack.{Pack}
 use Rattle.sample.specs.declared.Sample.{Sample}
 use Rattle.sample.specs.Cells.{best_of, highest, lowest, extremes_of, highest-number, lowest-number}
-use Rattle.pack.specs.Events.{Event}
 use Rattle.pack_state.specs.Past.{Past, past}
-use Rattle.pack_state.specs.State.{wishes_after, by_page, bled_after, balance_after, latest_after, state_after}
-use Rattle.pack.specs.Kept.{page_of, past_after, pack_after}
+use Rattle.pack_state.specs.State.{wishes_after, by_page, bled_after, latest_after}
+use Rattle.pack.specs.Kept.{page_of}
 use Rattle.pack_shown.specs.Shown.{switch_after, switches_word}
 use Rattle.pack.specs.Calls.{page-accepted}
-use Rattle.pack.specs.After.{after, after-is}
-use Rattle.pack_shown.specs.Decided.{switches-is, raised-is, mode-is}
 use Rattle.bus_table.specs.declared.Sends.{Sends}
 use Rattle.bus_table.specs.declared.Sends.TheVariants.{Nothing, Cell, Whole}
 use Rattle.bus_table.specs.declared.PackWord.{PackWord}
 use Rattle.bus_table.specs.declared.PackWord.TheVariants.{Temperature1, Temperature2, Sum, Current, ChargingCurrent, ChargingVoltage, Status, Mode, Raised, Bled, Outermost}
 use Rattle.bus_table.specs.Table.{table, row_of_command}
-use Rattle.bus_words.specs.Words.{heat_raised, status_word, status_of, raised_or_on, with_switches, numbers_word, pack_word, sent_word, said_after, word_after, said_of}
+use Rattle.bus_words.specs.Words.{raised_or_on, with_switches, numbers_word, pack_word, sent_word, said_after, word_after}
 
 -- ---- the words
 
@@ -89,62 +82,6 @@ module _ (raised on : ℕ → Bool) where
   bit-none i h = bits-past (raised_or_on raised on) 12 i h
 
 module _ (page : Settings) (p : Past) where
-  abbrev state : Pack
-  state = state_after page p
-
-  raised-at : (i : ℕ) → i < protections → (said_of state).raised i ≡ raised_after page.limits p.history i
-  raised-at i inside = ap (λ (w : ℕ). has_bit w i) (raised-is page p) ∙ raised_word_after-has page.limits p.history i inside
-
-  blocks-at : (switch : ℕ) → (said_of state).blocks switch ≡ (said_after page p).blocks switch
-  unfolding state_after
-  blocks-at switch = blocks_any-is page.limits p.history switch
-
-  on-at : (switch : ℕ) → switch < 2 → (said_of state).on switch ≡ switch_after page p switch
-  on-at switch h = ap (λ (w : ℕ). has_bit w switch) (switches-is page p) ∙ own-bit (switch_after page p) switch h
-
-  -- Each bit of 0x45 is what the page and the past say.
-  bit-at : (i : ℕ) → i < 12
-      → raised_or_on (said_of state).raised (said_of state).on i ≡ raised_or_on (said_after page p).raised (said_after page p).on i
-  bit-at i h =
-      by-order i 8
-      (λ a. rw (lt-ltb i 8 a) (raised-at i (omega arith)))
-      (λ a. rw (le-ltb i 8 a) (by-order i 10
-      (λ b. rw (lt-ltb i 10 b) (on-at (i - 8) (omega arith)))
-      (λ b. rw (le-ltb i 10 b) (raised-at (i - 2) (omega arith)))))
-
-  status-is : status_of (said_of state) ≡ status_of (said_after page p)
-  unfolding status_word heat_raised state_after
-  status-is =
-      rw (
-        raised-at 0 (lit< tt),
-        raised-at 5 (lit< tt),
-        raised-at 6 (lit< tt),
-        raised-at 7 (lit< tt),
-        blocks-at 0,
-        blocks-at 1,
-      )
-
-  pack-word-is : (w : PackWord) → pack_word (said_of state) w ≡ pack_word (said_after page p) w
-  unfolding pack_word state_after balance_after with_switches
-  pack-word-is Temperature1 = refl
-  pack-word-is Temperature2 = refl
-  pack-word-is Sum = refl
-  pack-word-is Current = refl
-  pack-word-is ChargingCurrent = rw (blocks-at 0)
-  pack-word-is ChargingVoltage = rw (blocks-at 0)
-  pack-word-is Status = status-is
-  pack-word-is Mode = mode-is page p
-  pack-word-is Raised = bits-same (raised_or_on (said_of state).raised (said_of state).on) (raised_or_on (said_after page p).raised (said_after page p).on) 12 bit-at
-  pack-word-is Bled = refl
-  pack-word-is Outermost = refl
-
-  -- The word of each row is the page's and the past's.
-  pub sent-word-is : (row : Sends) → sent_word (said_of (state_after page p)) row ≡ sent_word (said_after page p) row
-  unfolding sent_word state_after
-  sent-word-is Nothing = refl
-  sent-word-is (Cell k) = refl
-  sent-word-is (Whole w) = pack-word-is w
-
   -- 0x45 has the bits above, of the raised protections and the switches that the page and the past say.
   pub word-0x45 : word_after page p 0x45 ≡ with_switches (raised_after page.limits p.history) (switch_after page p)
   unfolding word_after row_of_command table sent_word pack_word
@@ -194,13 +131,3 @@ unfolding settings_of rules_of
 charging-current-is bytes taken =
     let range = (accepted-inside bytes taken 8 (omega arith)).1 in
     rw (page-accepted bytes taken) (word-signed (word_at bytes 8) (omega arith))
-
--- ---- after any load and calls
-
-module _ (bytes : List ℕ) (es : List Event) where
-  -- The word of every command is what document 01 says.
-  pub word-is : (c : ℕ) → sent_word (said_of (after bytes es)) (row_of_command c) ≡ word_after (page_of bytes) (past_after bytes es) c
-  unfolding pack_after word_after
-  word-is c =
-      ap (λ (p : Pack). sent_word (said_of p) (row_of_command c)) (after-is bytes es)
-      ∙ sent-word-is (page_of bytes) (past_after bytes es) (row_of_command c)

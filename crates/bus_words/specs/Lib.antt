@@ -4,7 +4,8 @@ pub mod Words
 pub mod Cases
 -- The words fit 16 bits.
 pub mod Bounds
--- Demand 2 on the bus: after any load and events the word of each command is what document 01 says.
+-- What single words say. Demand 2 on the bus, that after any load and events the word of each command is what document 01 says, is shown in
+-- proofs/Demands.antt.
 pub mod Demands
 -- Computed words of a state.
 pub mod OfState

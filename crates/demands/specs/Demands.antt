@@ -42,12 +42,13 @@ use Rattle.pack.specs.Events.{Event, offer, command}
 use Rattle.pack.specs.Answers.{offered, commanded}
 use Rattle.pack.specs.Kept.{page_of, past_after, pack_after, after_load}
 use Rattle.pack.specs.Calls.{page-accepted}
-use Rattle.pack.specs.After.{after, after-is}
+use Rattle.pack.specs.After.{after}
+use Rattle.pack.proofs.After.{after-is}
 use Rattle.pack_shown.specs.declared.Decision.{Decision}
 use Rattle.pack_shown.specs.Shown.{switch_after, switches_word, first_mode, mode_order, flow_mode, decision_after}
 use Rattle.bus_table.specs.Table.{row_of_command}
 use Rattle.bus_words.specs.Words.{status_word, sent_word, said_of, word_after}
-use Rattle.bus_words.specs.Demands.{word-is}
+use Rattle.bus_words.proofs.Demands.{word-is}
 use Rattle.bus.specs.declared.answer.Replied.TheVariants as reply
 use Rattle.bus.specs.Replies.{reply_refusals, answer_to, answer_after, buffer_of, buffer_after}
 use Rattle.bus.specs.Demands as bus

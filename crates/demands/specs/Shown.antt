@@ -42,8 +42,10 @@ use Rattle.pack.specs.declared.Answered.{Answered}
 use Rattle.pack.specs.Events.{Event, offer, command, accepts, with_event, past_of}
 use Rattle.pack.specs.Answers.{offered}
 use Rattle.pack.specs.Kept.{page_of, past_after, pack_after}
-use Rattle.pack.specs.Calls.{page-accepted, offered-is}
-use Rattle.pack.specs.After.{after, after-is}
+use Rattle.pack.specs.Calls.{page-accepted}
+use Rattle.pack.proofs.Offered.{offered-is}
+use Rattle.pack.specs.After.{after}
+use Rattle.pack.proofs.After.{after-is}
 use Rattle.pack_shown.specs.declared.Decision.{Decision}
 use Rattle.pack_shown.specs.Shown.{switch_after, decision_after, decision_of}
 use Rattle.pack_shown.specs.Decided.{decision-is}

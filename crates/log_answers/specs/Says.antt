@@ -12,7 +12,8 @@ use Rattle.pack_state.specs.State.{state_after}
 use Rattle.pack.specs.Events.{Event, offer, command}
 use Rattle.pack.specs.Answers.{offered, commanded}
 use Rattle.pack.specs.Kept.{page_of, past_after, pack_after}
-use Rattle.pack.specs.After.{after, after-is}
+use Rattle.pack.specs.After.{after}
+use Rattle.pack.proofs.After.{after-is}
 use Rattle.pack_shown.specs.Shown.{decision_after, decision_of}
 use Rattle.pack_shown.specs.Decided.{decision-is}
 use Rattle.log_entries.specs.declared.Kind.{Kind}

@@ -1,30 +1,28 @@
--- Each call leads from the state after some events to the state after one event more, and hands on that it stands for them.
+-- Each call leads from the state after some events to the state after one event more, and hands on that it stands for them. Of an offered sample
+-- that is shown in proofs/Offered.antt.
 -- Assumes nothing.
-use Rattle.std.specs.Prelude.{◌≡◌, refl, true, false, List, [], ◌∷◌, ℕ, zero, suc, ◌%◌, ◌<◌}
+use Rattle.std.specs.Prelude.{◌≡◌, refl, List, [], ◌∷◌, ℕ, ◌%◌, ◌<◌}
 use Rattle.std.proofs.Math.Path.{sym, ap}
-use Rattle.std.proofs.Common.{◌∙◌, arith, zero-lt-suc}
+use Rattle.std.proofs.Common.{◌∙◌, arith}
 use Rattle.std.proofs.Math.Nat.{mod-eq_of_lt}
-use Rattle.laws.specs.Tests.{by-test, clash}
+use Rattle.laws.specs.Tests.{by-test}
 use Rattle.page_judge.specs.Page.{judged, refusals}
 use Rattle.page_judge.specs.Walk.{judged-answer}
 use Rattle.refusals.specs.Answers.{answer_of}
 use Rattle.refusals.specs.Refusals.{given}
 use Rattle.refusals.specs.declared.Verdict.{Verdict}
 use Rattle.refusals.specs.declared.Verdict.TheVariants.{Accepted, Refused}
-use Rattle.sample.specs.declared.Extremes.{Extremes}
 use Rattle.sample.specs.declared.Sample.{Sample}
-use Rattle.sample.specs.Cells.{extremes_of}
-use Rattle.pack_refusals.specs.Agree.{trimmed-extremes}
-use Rattle.pack_refusals.specs.Samples.{sample_refusals, sample_verdict, command_refusals, command_verdict, trimmed}
-use Rattle.pack_refusals.specs.SampleLaws.{sample-none, command-most}
+use Rattle.pack_refusals.specs.Samples.{sample_refusals, sample_verdict, command_refusals, command_verdict}
+use Rattle.pack_refusals.specs.SampleLaws.{command-most}
 use Rattle.page_settings.specs.declared.Loaded.{Loaded}
 use Rattle.page_settings.specs.Settings.{settings_of, no_settings, loaded_of, loaded_with}
 use Rattle.page_settings.specs.Good.{Good, accepted-good}
 use Rattle.pack_state.specs.declared.Pack.{Pack}
-use Rattle.pack_state.specs.State.{state_after, fresh_pack, accepted_by, accepted_pack, Watched, state-watched}
-use Rattle.pack_state.specs.Steps.{state-next, state-fresh}
+use Rattle.pack_state.specs.State.{state_after, fresh_pack, Watched, state-watched}
+use Rattle.pack_state.specs.Steps.{state-fresh}
 use Rattle.pack.specs.declared.Answered.{Answered}
-use Rattle.pack.specs.Events.{Event, offer, command, accepts, with_event, past_of}
+use Rattle.pack.specs.Events.{Event, command, accepts, with_event, past_of}
 use Rattle.pack.specs.Answers.{answered, offered, with_command, commanded}
 use Rattle.pack.specs.Kept.{page_of, past_after, pack_after, Kept, after_load}
 
@@ -44,24 +42,7 @@ pub page-accepted : (bytes : List ℕ) → judged bytes ≡ Accepted → page_of
 unfolding loaded_of
 page-accepted bytes e = ap (λ (v : Verdict). (loaded_with v bytes).settings) e
 
-some-if : (n : ℕ) (v : Verdict) → (n ≡ 0 → accepts v ≡ false) → accepts v ≡ true → 0 < n
-some-if zero v none e = clash e (none refl)
-some-if (suc n) v none e = zero-lt-suc n
-
-sample-some : (n : ℕ) (s : Sample) → accepts (sample_verdict n s) ≡ true → 0 < n
-sample-some n s = some-if n (sample_verdict n s) (λ z. ap accepts (sample-none n s z))
-
 -- ---- the state after one event more
-
--- Offering a sample.
-pub offered-is : (bytes : List ℕ) (es : List Event) (s : Sample)
-    → offered (pack_after bytes es) s ≡ answered (sample_verdict (page_of bytes).rules.n s) (pack_after bytes (offer s ∷ es))
-unfolding offered pack_after state_after past_of with_event
-offered-is bytes es s =
-    by-test (accepts (sample_verdict (page_of bytes).rules.n s))
-    (λ t. rw t (ap (answered (sample_verdict (page_of bytes).rules.n s))
-    (state-next (page_of bytes) (page-good bytes (sample-some (page_of bytes).rules.n s t)) (past_after bytes es) (trimmed s))))
-    (λ t. rw t)
 
 -- Commanding the switches.
 pub commanded-is : (bytes : List ℕ) (es : List Event) (c : ℕ)
@@ -75,14 +56,6 @@ commanded-is bytes es c =
 pub kept-load : (bytes : List ℕ) → Kept (after_load bytes).pack
 unfolding after_load pack_after past_of
 kept-load bytes = record { bytes = bytes; events = []; is = state-fresh (page_of bytes) }
-
-pub kept-offer : (p : Pack) (s : Sample) → Kept p → Kept (offered p s).pack
-kept-offer p s k =
-    record {
-      bytes = k.bytes;
-      events = offer s ∷ k.events;
-      is = ap (λ (q : Pack). (offered q s).pack) k.is ∙ ap (λ (a : Answered). a.pack) (offered-is k.bytes k.events s);
-    }
 
 pub kept-command : (p : Pack) (c : ℕ) → Kept p → Kept (commanded p c).pack
 kept-command p c k =
@@ -111,24 +84,7 @@ load-is bytes l q el eq =
     let judge : l.verdict ≡ judged bytes = ap (λ (x : Loaded). x.verdict) el ∙ verdict-is (judged bytes) bytes in
     (rw (is, el), ((judged-answer bytes l.verdict judge).1, rw is (kept-load bytes)))
 
--- What is kept of a sample is accepted by the sample's own highest and lowest cell.
-accepted-kept : (p : Pack) (s : Sample) → accepted_pack p (trimmed s) ≡ accepted_by (extremes_of s.cells s.count) p (trimmed s)
-unfolding accepted_pack
-accepted-kept p s = ap (λ (x : Extremes). accepted_by x p (trimmed s)) (trimmed-extremes s)
-
 module _ (p : Pack) (k : Kept p) where
-  -- An accepted sample, whose highest and lowest cell are e: `t` is what is kept of it.
-  pub offer-accepted : (s t : Sample) (e : Extremes) (v : Verdict) (q : Pack)
-      → (v ≡ sample_verdict p.rules.n s) × (answer_of v ≡ given (sample_refusals p.rules.n s)) → v ≡ Accepted → t ≡ trimmed s
-      → e ≡ extremes_of s.cells s.count → q ≡ accepted_by e p t
-      → (answered v q ≡ offered p s) × ((answer_of v ≡ given (sample_refusals p.rules.n s)) × Kept q)
-  unfolding offered
-  offer-accepted s t e v q ev ea et ee eq =
-      let next : q ≡ accepted_pack p (trimmed s) =
-      eq ∙ ap (accepted_by e p) et ∙ ap (λ (x : Extremes). accepted_by x p (trimmed s)) ee ∙ sym (accepted-kept p s) in
-      let is : answered v q ≡ offered p s = rw (← ev.0, ea, next) in
-      (is, (ev.1, rw (ap (λ (a : Answered). a.pack) is) (kept-offer p s k)))
-
   pub offer-refused : (s : Sample) (v : Verdict) (number word : ℕ)
       → (v ≡ sample_verdict p.rules.n s) × (answer_of v ≡ given (sample_refusals p.rules.n s)) → v ≡ Refused number word
       → (answered v p ≡ offered p s) × ((answer_of v ≡ given (sample_refusals p.rules.n s)) × Kept p)

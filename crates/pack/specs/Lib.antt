@@ -4,7 +4,7 @@ pub mod Events
 pub mod Answers
 -- To be believed: what a load answers, and what a call may take as given of a pack state.
 pub mod Kept
--- Each call leads from the state after some events to the state after one event more.
+-- Each call leads from the state after some events to the state after one event more; of an offered sample proofs/Offered.antt shows it.
 pub mod Calls
--- So after a load and any calls the pack is in the state that the page and the past say.
+-- The pack after a load and any calls. It is in the state that the page and the past say: shown in proofs/After.antt.
 pub mod After

@@ -1,5 +1,6 @@
 -- `pack::offer` meets its contract. Assumes nothing.
-use Rattle.pack.specs.Calls.{kept-watched, offer-accepted, offer-refused}
+use Rattle.pack.specs.Calls.{kept-watched, offer-refused}
+use Rattle.pack.proofs.Offered.{offer-accepted}
 use Rattle.pack.proofs.offer.Goals as goal
 
 pub accept-next-requires : goal.accept-next-requires
