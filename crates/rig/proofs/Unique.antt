@@ -13,6 +13,8 @@ use Rattle.rig.proofs.keeper_judge_pocket.Kinds as keeper-judge-pocket-kinds
 use Rattle.rig.proofs.keeper_judge_pocket.Reads as keeper-judge-pocket
 use Rattle.rig.proofs.keeper_pack_load.Kinds as keeper-pack-load-kinds
 use Rattle.rig.proofs.keeper_pack_load.Reads as keeper-pack-load
+use Rattle.rig.proofs.keeper_pack_offer.Kinds as keeper-pack-offer-kinds
+use Rattle.rig.proofs.keeper_pack_offer.Reads as keeper-pack-offer
 use Rattle.rig.proofs.keeper_pack_command.Kinds as keeper-pack-command-kinds
 use Rattle.rig.proofs.keeper_pack_command.Reads as keeper-pack-command
 use Rattle.rig.proofs.keeper_pack_show.Kinds as keeper-pack-show-kinds
@@ -56,6 +58,12 @@ Offers x s r e = (r ≡ (offered_numbers x s).answer) × (e ≡ (offered_numbers
 
 keeper-pack-offer-one : (x : Numbers) (s : Sample) (r q : ℕ) (e f : Numbers) → Offers x s r e → Offers x s q f → (r ≡ q) × (e ≡ f)
 keeper-pack-offer-one x s r q e f p t = (p.0 ∙ sym t.0, p.1 ∙ sym t.1)
+
+-- The same of the contract that Rattle reads out of the source.
+keeper-pack-offer-read-one : (κs : Lfts 1) (a : Dens κs keeper-pack-offer-kinds.ps) (x y : (res_t keeper-pack-offer-kinds.r κs).Denot)
+    (s t : AtExit (ended_of 1 keeper-pack-offer-kinds.ps keeper-pack-offer-kinds.r) κs)
+    → keeper-pack-offer.Post κs a x s → keeper-pack-offer.Post κs a y t → (x ≡ y) × (s.0.now ≡ t.0.now)
+keeper-pack-offer-read-one κs a x y s t p q = keeper-pack-offer-one a.0.now a.1.0 x y s.0.now t.0.now p q
 
 keeper-write-sheet-one : (κs : Lfts 2) (a : Dens κs keeper-write-sheet-kinds.ps) (x y : (res_t keeper-write-sheet-kinds.r κs).Denot)
     (s t : AtExit (ended_of 2 keeper-write-sheet-kinds.ps keeper-write-sheet-kinds.r) κs)

@@ -1,6 +1,5 @@
 -- `rig::keeper_judge_page` meets its contract: it is the judge's verdict as a number. Assumes nothing.
 use mathlib.Core.Path.{ap, ◌∙◌}
-use borrow.Author.Rules.{rules}
 use Rattle.rig.specs.Answer.{numbered}
 use Rattle.rig.proofs.keeper_judge_page.Goals as goal
 

@@ -1,6 +1,5 @@
 -- `rig::keeper_judge_pocket` meets its contract: it is the profile's verdict as a number. Assumes nothing.
 use mathlib.Core.Path.{ap, ◌∙◌}
-use borrow.Author.Rules.{rules}
 use Rattle.rig.specs.Answer.{numbered}
 use Rattle.rig.proofs.keeper_judge_pocket.Goals as goal
 

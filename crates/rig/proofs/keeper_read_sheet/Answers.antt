@@ -1,6 +1,5 @@
 -- `rig::keeper_read_sheet` meets its contract. Assumes nothing.
 use mathlib.Core.Path.{ap, ◌∙◌}
-use borrow.Author.Rules.{rules}
 use Rattle.rig.specs.Answer.{numbered}
 use Rattle.rig.proofs.keeper_read_sheet.Goals as goal
 

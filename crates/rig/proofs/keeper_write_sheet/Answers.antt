@@ -1,11 +1,10 @@
 -- `rig::keeper_write_sheet` meets its contract. Assumes nothing.
 use mathlib.Core.Path.{sym, ap, ◌∙◌}
 use Rattle.rig.specs.Answer.{wrote_number}
-use borrow.Author.Rules.{rules}
 use Rattle.rig.proofs.keeper_write_sheet.Goals as goal
 
 pub returns-in-Text : goal.returns-in-Text
-returns-in-Text c = record { value = sym (ap wrote_number c.wrote-1.given.1) ∙ ap wrote_number c.write_sheet-wrote.ensures.value; text_after = c.write_sheet-wrote.ensures.out_after }
+returns-in-Text c = record { value = sym (ap wrote_number c.in-Text.is) ∙ ap wrote_number c.write_sheet-wrote.ensures.value; text_after = c.write_sheet-wrote.ensures.out_after }
 
 pub returns-in-Refused : goal.returns-in-Refused
-returns-in-Refused c = record { value = sym (ap wrote_number c.wrote-in-Refused-1.given.1) ∙ ap wrote_number c.write_sheet-wrote.ensures.value; text_after = c.write_sheet-wrote.ensures.out_after }
+returns-in-Refused c = record { value = sym (ap wrote_number c.in-Refused.is) ∙ ap wrote_number c.write_sheet-wrote.ensures.value; text_after = c.write_sheet-wrote.ensures.out_after }
