@@ -63,7 +63,7 @@ keeper-pack-offer-one x s r q e f p t = (p.0 ∙ sym t.0, p.1 ∙ sym t.1)
 keeper-pack-offer-read-one : (κs : Lfts 1) (a : Dens κs keeper-pack-offer-kinds.ps) (x y : (res_t keeper-pack-offer-kinds.r κs).Denot)
     (s t : AtExit (ended_of 1 keeper-pack-offer-kinds.ps keeper-pack-offer-kinds.r) κs)
     → keeper-pack-offer.Post κs a x s → keeper-pack-offer.Post κs a y t → (x ≡ y) × (s.0.now ≡ t.0.now)
-keeper-pack-offer-read-one κs a x y s t p q = keeper-pack-offer-one a.0.now a.1.0 x y s.0.now t.0.now p q
+keeper-pack-offer-read-one κs a x y s t p q = (p.0 ∙ sym q.0, p.1 ∙ sym q.1)
 
 keeper-write-sheet-one : (κs : Lfts 2) (a : Dens κs keeper-write-sheet-kinds.ps) (x y : (res_t keeper-write-sheet-kinds.r κs).Denot)
     (s t : AtExit (ended_of 2 keeper-write-sheet-kinds.ps keeper-write-sheet-kinds.r) κs)
