@@ -15,7 +15,7 @@ use Rattle.log_entries.specs.declared.Kind.{Kind}
 use Rattle.log_entries.specs.declared.Kind.TheVariants.{Offer, Command, Malformed}
 use Rattle.log_entries.specs.declared.Entry.{Entry}
 use Rattle.log_entries.specs.Entry.{read_entry}
-use Rattle.log_entries.specs.Reading.{overlong}
+use Rattle.log_entries.proofs.Reading.{overlong}
 use Rattle.log_answers.specs.declared.Told.{Told}
 use Rattle.log_answers.specs.declared.Told.TheVariants.{Decided, Refused}
 use Rattle.log_answers.specs.declared.Outcome.{Outcome}

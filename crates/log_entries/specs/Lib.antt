@@ -6,7 +6,7 @@ pub mod Cases
 pub mod Left
 -- An `S` line as the reader takes it, number by number.
 pub mod InTurn
--- Laws: which rows are implied by the others, and the steps of the reader.
-pub mod Reading
+-- How many bytes some fields take, and whether they have a byte.
+pub mod Spread
 -- An `S` line read along, before its newline was looked for.
 pub mod Ahead

@@ -13,7 +13,8 @@ use Rattle.log_entries.specs.declared.Kind.TheVariants.{Offer, Command, Malforme
 use Rattle.log_entries.specs.declared.Entry.{Entry}
 use Rattle.log_entries.specs.declared.Ahead.{Ahead}
 use Rattle.log_entries.specs.Entry.{malformed, read_entry}
-use Rattle.log_entries.specs.Ahead.{end_from, rest_of, found_of, found_in, read_ahead, ahead-is}
+use Rattle.log_entries.specs.Ahead.{end_from, rest_of, found_of, found_in, read_ahead}
+use Rattle.log_entries.proofs.AheadLaws.{ahead-is}
 use Rattle.pack_log.specs.declared.next.NextEntry.{NextEntry}
 
 abbrev pub next_at : ℕ → Entry → NextEntry

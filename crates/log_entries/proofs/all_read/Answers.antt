@@ -5,7 +5,8 @@ use lib.ListN.{get_or}
 use Rattle.text_numbers.specs.declared.Signed.{Signed}
 use Rattle.log_entries.proofs.Current.{current-same}
 use Rattle.log_entries.specs.Entry.{offer, if_signed}
-use Rattle.log_entries.specs.InTurn.{cells_of, behind-few, behind-all}
+use Rattle.log_entries.specs.InTurn.{cells_of}
+use Rattle.log_entries.proofs.InTurn.{behind-few, behind-all}
 use Rattle.log_entries.specs.Ahead.{found, found_as}
 use Rattle.log_entries.proofs.all_read.Goals as goal
 

@@ -3,7 +3,7 @@ use mathlib.Core.Path.{refl, sym, ◌∙◌}
 use lib.ListN.{length-set}
 use Rattle.text_number_at.specs.Along.{along-value, tabbed-within}
 use Rattle.log_entries.specs.InTurn.{cells_of, behind}
-use Rattle.log_entries.specs.Ahead.{ahead-over, ahead-none, ahead-last, ahead-next, ahead-four}
+use Rattle.log_entries.proofs.AheadLaws.{ahead-over, ahead-none, ahead-last, ahead-next, ahead-four}
 use native.Mathlib.Omega.{arith}
 use Rattle.log_entries.proofs.numbers_ahead.Goals as goal
 

@@ -6,7 +6,7 @@ use lib.ListN.{length, get_or}
 use Rattle.laws.specs.Each.{each_to, each-next}
 use Rattle.units.specs.declared.MilliVolts.{MilliVolts}
 use Rattle.log_entries.specs.Entry.{offer}
-use Rattle.log_entries.specs.InTurn.{ten-cells}
+use Rattle.log_entries.proofs.InTurn.{ten-cells}
 use borrow.Author.Rules.{rules}
 use native.Mathlib.Omega.{arith}
 use Rattle.log_entries.proofs.offered.Goals as goal

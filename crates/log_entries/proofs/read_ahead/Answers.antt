@@ -2,7 +2,7 @@
 use mathlib.Core.Path.{sym, ◌∙◌}
 use Prim.Native.Nat.{◌+◌}
 use native.Mathlib.Omega.{arith}
-use Rattle.log_entries.specs.Ahead.{start-short, start-not, start-sample, sample-ahead}
+use Rattle.log_entries.proofs.AheadLaws.{start-short, start-not, start-sample, sample-ahead}
 use Rattle.log_entries.proofs.read_ahead.Goals as goal
 
 pub returns-then-n-from : goal.returns-then-n-from

@@ -1,10 +1,10 @@
 -- `log_entries::read_command` meets its contract. Assumes nothing.
-use Rattle.log_entries.specs.Reading.{command-read}
+use Rattle.log_entries.proofs.Reading.{command-read}
 use mathlib.Core.Path.{sym, ap, ◌∙◌}
 use native.Mathlib.Omega.{arith}
 use Rattle.log_entries.specs.Entry.{read_command}
 use Rattle.log_entries.specs.Left.{left-none, left-only}
-use Rattle.log_entries.specs.Reading.{command-over}
+use Rattle.log_entries.proofs.Reading.{command-over}
 use Rattle.log_entries.proofs.read_command.Goals as goal
 
 pub returns-then-n-at : goal.returns-then-n-at

@@ -2,7 +2,7 @@
 use mathlib.Core.Path.{sym, ◌∙◌}
 use native.Mathlib.Omega.{arith}
 use borrow.Author.Tests.{ne_eqb}
-use Rattle.log_entries.specs.Reading.{overlong, line-short, line-other, line-letter}
+use Rattle.log_entries.proofs.Reading.{overlong, line-short, line-other, line-letter}
 use Rattle.log_entries.proofs.read_entry.Goals as goal
 
 pub returns-then-line-gt128 : goal.returns-then-line-gt128

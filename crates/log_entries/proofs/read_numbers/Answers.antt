@@ -9,7 +9,8 @@ use Rattle.text_numbers.specs.declared.Signed.{Signed}
 use Rattle.log_entries.proofs.Current.{current-same}
 use Rattle.log_entries.specs.Entry.{offer, if_signed}
 use Rattle.log_entries.specs.Left.{left, left-none, left-next}
-use Rattle.log_entries.specs.InTurn.{cells_of, behind, behind-over, behind-none, behind-next, behind-few, behind-all}
+use Rattle.log_entries.specs.InTurn.{cells_of, behind}
+use Rattle.log_entries.proofs.InTurn.{behind-over, behind-none, behind-next, behind-few, behind-all}
 use native.Mathlib.Omega.{arith}
 use Rattle.log_entries.proofs.read_numbers.Goals as goal
 

@@ -1,6 +1,6 @@
 -- `log_entries::read_sample` meets its contract: the fields are read behind the minus that may stand there. Assumes nothing.
 use mathlib.Core.Path.{sym, ◌∙◌}
-use Rattle.log_entries.specs.InTurn.{sample-start}
+use Rattle.log_entries.proofs.InTurn.{sample-start}
 use Rattle.log_entries.proofs.read_sample.Goals as goal
 
 pub returns : goal.returns

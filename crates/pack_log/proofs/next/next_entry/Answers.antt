@@ -3,7 +3,7 @@ use mathlib.Core.Path.{sym, ap, ◌∙◌}
 use native.Mathlib.Omega.{arith}
 use Rattle.log_lines.specs.Walking.{next-ends}
 use Rattle.log_entries.specs.declared.Ahead.{Ahead}
-use Rattle.log_entries.specs.Ahead.{ahead-is}
+use Rattle.log_entries.proofs.AheadLaws.{ahead-is}
 use Rattle.pack_log.specs.Next.{next-ahead, next-read, next-none}
 use Rattle.pack_log.proofs.next.next_entry.Goals as goal
 

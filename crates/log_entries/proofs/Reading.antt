@@ -23,16 +23,7 @@ use Rattle.text_numbers.specs.Canonical.{InRange, number-text, signed-text}
 use Rattle.log_entries.specs.Entry.{malformed, command, if_number, if_signed, read_command, cells_from, second_from, first_from, read_sample, is_letter, fields_say, read_entry}
 use Rattle.log_entries.specs.Left.{left, left-some, left-next}
 use Rattle.log_entries.specs.declared.Entry.{Entry}
-
--- How many bytes some fields take, each with the one byte that parts it from the next or ends the line.
-unfoldable pub spread : List (List ℕ) → ℕ
-spread [] = 0
-spread (f ∷ fs) = suc (length f) + spread fs
-
--- Whether no field has this byte.
-unfoldable pub clean : ℕ → List (List ℕ) → Bool
-clean w [] = true
-clean w (f ∷ fs) = cond (lacks w f) (clean w fs) false
+use Rattle.log_entries.specs.Spread.{spread, clean}
 
 longer-spread : (b : ℕ) (fs : List (List ℕ)) → 0 < spread fs → spread (longer b fs) ≡ suc (spread fs)
 unfolding spread
