@@ -1,7 +1,7 @@
--- To be read first: the user's sentences, one after the other, and under each its theorem.
-pub mod Demands
 -- What `decide` shows after a load and any calls, and at each accepted sample: the definitions that the second and third demand speak of.
 pub mod Shown
+-- What the third demand says of the samples at which a cell waits. Its theorems, and those of the other two, stand in proofs/Demands.
+pub mod Suffice
 -- What a sample, a command and a line are answered with, exactly.
 pub mod Answers
 -- Fields that are the texts of numbers in range are read as these numbers.

@@ -1,3 +1,3 @@
-// The three demands, sentence by sentence: specs/Demands.antt. No code stands here.
+// The three demands, sentence by sentence: proofs/Demands.antt. No code stands here.
 
 #![tactic(auto)]

@@ -1,4 +1,4 @@
--- No sample trips and releases one protection at once; no lowest cell wants bleeding or is bled.
+-- What never happens: its theorems stand in proofs/Never.
 pub mod Never
 -- Computed cases.
 pub mod Cases

@@ -1,3 +1,3 @@
-// What never happens with an accepted page (request 08): specs/Never.antt. No code stands here.
+// What never happens with an accepted page (request 08): proofs/Never.antt. No code stands here.
 
 #![tactic(auto)]

@@ -1,4 +1,4 @@
--- To be read first: the request's sentences, and under each its theorem, over an accepted page and any events since its load.
+-- What the request's three sentences speak of: their theorems stand in proofs/Rounds.
 pub mod Rounds
 -- The same over any history of wishes.
 pub mod Waits

@@ -1,3 +1,3 @@
-// What long waiting gives (request 14): specs/Rounds.antt. No code stands here.
+// What long waiting gives (request 14): proofs/Rounds.antt. No code stands here.
 
 #![tactic(auto)]

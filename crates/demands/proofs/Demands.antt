@@ -76,6 +76,7 @@ use Rattle.demands.specs.Shown.{never-shown, raised-own, clear-at-load, command-
 use Rattle.demands.specs.TooFew.{waiting, too-few}
 use Rattle.demands.specs.TwoCells.{two-suffice}
 use Rattle.demands.specs.Written.{page_for}
+use Rattle.demands.specs.Suffice.{Suffice}
 
 -- ==== DEMAND 1
 
@@ -343,15 +344,6 @@ pub demand-2-replay : (bytes log : List ℕ) → (after_load bytes).verdict ≡ 
 demand-2-replay = replay-says
 
 -- ==== DEMAND 3
-
--- In every pack of n cells m samples suffice: after a load of any accepted page and any events since, a cell k that wants bleeding at m
--- consecutive accepted samples, as document 01 says it, is bled in at least one of them: its bit, k - 1, stands in the balance shown at
--- that sample. The m samples lie anywhere in the history, j samples before its latest, and of the other cells nothing is asked.
-abbrev pub Suffice : ℕ → ℕ → Type 0
-Suffice n m =
-    (bytes : List ℕ) → judged bytes ≡ Accepted → word_at bytes 1 ≡ n → (es : List Event) (k : ℕ) → 1 ≤ k → k ≤ n → (j : ℕ)
-    → last_all m (wants_cell k) (drop j (wanted bytes es)) ≡ true
-    → 0 < among m (λ w. holds_cell w k) (drop j (shown_words bytes es))
 
 -- ---- "From a fresh load, over any history, a cell that wants bleeding at n + 1 consecutive accepted samples, n being the number of
 -- cells, is bled in at least one of them, whatever the other cells do."
