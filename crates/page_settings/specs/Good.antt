@@ -6,7 +6,7 @@ use Rattle.std.proofs.lemmas.List.{length-replicate}
 use Rattle.laws.specs.Tests.{by-order}
 use Rattle.laws.specs.Each.{each_to, each-next}
 use Rattle.laws.specs.Numbered.{list_of-length, list_of-at, each-list_of}
-use Rattle.units.specs.Levels.{level}
+use Rattle.units.specs.declared.Level.{Level}
 use Rattle.units.specs.Signed.{signed_of}
 use Rattle.protections.specs.Table.{row_with, row_at, row-past, protections}
 use Rattle.protections.specs.Direction.{reaches, in_order, back_of}
@@ -118,33 +118,39 @@ range-signed : (i x : ℕ) → InRange i x → x ≤ 32767 → InRangeSigned i (
 unfolding signed_of
 range-signed i x h g = record { value = x; is = rw (lt-ltb x 32768 (omega arith)); inside = h }
 
--- The limits that five such words stand for are good.
-words-good : (b : List ℕ) (p : ℕ) → Limited b p → (ls : Limits)
-    → ls ≡ record {
-      trip = level (sample_level (row_at p).direction (row_at p).quantity (word_at b (trip_word p)));
-      release = level (sample_level (back_of (row_at p).direction) (row_at p).quantity (word_at b (trip_word p + 1)));
-      n = word_at b (trip_word p + 2);
-      m = word_at b (trip_word p + 3);
-      mask = word_at b (trip_word p + 4);
-    }
-    → GoodLimits (row_at p).direction ls
-words-good b p l ls e =
-    rw e
-    (record {
+-- What an accepted page says of N, M and mask is good beside any levels that stand in order.
+words-good : (b : List ℕ) (p : ℕ) → Limited b p → (trip release : Level) → in_order (row_at p).direction trip.0 release.0 ≡ true
+    → GoodLimits (row_at p).direction (record {
+      trip = trip;
+      release = release;
+      n = (limits_from b p).n;
+      m = (limits_from b p).m;
+      mask = (limits_from b p).mask;
+    })
+unfolding limits_from
+words-good b p l trip release order =
+    record {
       n-least = l.n.0;
       n-most = l.n.1;
       m-least = l.m.0;
       m-most = l.m.1;
       mask-most = l.mask;
-      ordered =
-          level-order (row_at p).quantity (row_at p).direction (word_at b (trip_word p)) (word_at b (trip_word p + 1)) l.trip l.release
-          l.order;
-    })
+      ordered = order;
+    }
+
+-- The levels of its words do.
+words-order : (b : List ℕ) (p : ℕ) → Limited b p → in_order (row_at p).direction
+    (sample_level (row_at p).direction (row_at p).quantity (word_at b (trip_word p)))
+    (sample_level (back_of (row_at p).direction) (row_at p).quantity (word_at b (trip_word p + 1)))
+    ≡ true
+words-order b p l = level-order (row_at p).quantity (row_at p).direction (word_at b (trip_word p)) (word_at b (trip_word p + 1)) l.trip l.release l.order
 
 -- What an accepted page says of a protection that it has is good,
 own-good : (b : List ℕ) → judged b ≡ Accepted → (p : ℕ) → p < page_protections b → GoodLimits (row_at p).direction (limits_from b p)
 unfolding limits_from
-own-good b e p h = words-good b p (accepted-limits b e p h) (limits_from b p) refl
+own-good b e p h =
+    let l : Limited b p = accepted-limits b e p h in
+    words-good b p l (limits_from b p).trip (limits_from b p).release (words-order b p l)
 
 -- and so is what stands for one that it does not have: those look at temperature 1 and trip at or below.
 pub past-row : (b : List ℕ) (p : ℕ) → page_protections b ≤ p → row_at p ≡ row_with Temperature1 Below Silent
@@ -175,7 +181,9 @@ accepted-good b e =
       current = range-signed 8 (word_at b 8) (at 8 (omega arith)) (at 8 (omega arith)).1;
       count = limits-count b;
       each = λ p h. by-order p (page_protections b)
-          (λ own. rw (limits-own b p own) (words-good b p (accepted-limits b e p own) (limits_from b p) refl))
+          (λ own.
+          let l : Limited b p = accepted-limits b e p own in
+          rw (limits-own b p own) (words-good b p l (limits_from b p).trip (limits_from b p).release (words-order b p l)))
           (λ past. rw (limits-past b p past h) (absent-good b p past));
     }
 
