@@ -83,7 +83,7 @@ page_word() { # NUMBER
 # only once, as a pipe, is not tried.
 can_read() { # LOG
     if [ "$1" = - ] || { [ -e "$1" ] && [ ! -f "$1" ] && [ ! -d "$1" ]; }; then return 0; fi
-    run replay /dev/null "$1" >/dev/null
+    if opens_by_name "$1"; then run replay /dev/null "$1" >/dev/null; else run replay /dev/null /dev/fd/7 7<"$1" >/dev/null; fi
     [ $? -eq 3 ]
 }
 

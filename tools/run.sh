@@ -295,6 +295,11 @@ spoilt_in_copy() { # NAME..
 
 # ---- running
 
+# Whether a program can open a file by its name, which has to be UTF-8 text. A file of another name is opened by the shell, which has it as /dev/fd/N.
+opens_by_name() { # FILE
+    [ ! -r "$1" ] || [ -d "$1" ] || [ -z "$(printf %s "$1" | LC_ALL=C tr -d '\001-\177')" ] || printf %s "$1" | iconv -f UTF-8 -t UTF-8 >/dev/null 2>&1
+}
+
 # Runs a program that is built. It ends as every word does: 0, 1 with a message, 3.
 run() { # NAME WORDS..
     ran=$1

@@ -54,7 +54,7 @@ newline='
 '
 escape=$(printf '\033[31m')
 mkdir -p "$made/names"
-for name in '-f' '--page' 'a:b' 'ä ö.page' "a${newline}b" "${escape}red" '$(touch no)' '*'; do
+for name in '-f' '--page' 'a:b' 'ä ö.page' "a${newline}b" "${escape}red" '$(touch no)' '*' "$(printf 'a\377b')"; do
     cp "$page" "$made/names/$name" && cp "$log" "$made/names/$name.log"
     try sh -c 'cd "$0" && "$1" replay "$2" "$3"' "$made/names" "$tree/keeper" "$name" "$name.log"
     holds "13 replay of a page named $(printf %s "$name" | tr -c ' -~' '?')" 'ended 0 && wrote "$want"'
