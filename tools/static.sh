@@ -118,7 +118,7 @@ compile_for() { # MACHINE OUTPUT FILE
         -fno-stack-protector -fno-pie -fno-ident -fno-asynchronous-unwind-tables -ffunction-sections -fdata-sections -c -o "$2" "$3"
 }
 link_for() { # OUTPUT OBJECTS..
-    quietly "$toolchain/bin/ld.lld" -static -z noexecstack --build-id=none --gc-sections --strip-all -o "$@"
+    quietly "$toolchain/bin/ld.lld" -static -z noexecstack -z norelro --build-id=none --gc-sections --strip-all -o "$@"
 }
 
 make_static() { # NAME MACHINE OUTPUT
