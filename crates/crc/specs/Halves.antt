@@ -27,12 +27,12 @@ below-at test (suc n) k e h =
 abbrev right : ℕ → Bool
 right c = eqb (bit_xor (get_or halves (c / 16) 0) (c % 16 * 16)) (times_xs 4 c)
 
-all-right : every_below right 256 ≡ true
-unfolding times_xs times_x
-all-right = refl
-
 pub half-is : (c : ℕ) → c < 256 → bit_xor (get_or halves (c / 16) 0) (c % 16 * 16) ≡ times_xs 4 c
+unfolding times_xs times_x
 half-is c h = eqb-true (bit_xor (get_or halves (c / 16) 0) (c % 16 * 16)) (times_xs 4 c) (below-at right 256 c all-right h)
+  where
+    all-right : every_below right 256 ≡ true
+    all-right = refl
 
 -- A byte is two halves.
 pub halves-are : (c b : ℕ) → times_xs 4 (times_xs 4 (bit_xor c b)) ≡ times_xs 8 (bit_xor c b)

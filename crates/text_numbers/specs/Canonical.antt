@@ -10,7 +10,7 @@ use Rattle.std.specs.Int.Signed.{le_z}
 use borrow.Author.Tests.{le-ltb, ltb-false, eqb-true, eqb-false, ne_eqb, le-leb, leb-true}
 use Rattle.laws.specs.Tests.{by-test, by-order}
 use Rattle.text_fields.specs.Decimal.{decimal}
-use Rattle.text_numbers.specs.Numbers.{digits_to, number_to, read_number, above_of, below_of, read_signed, signed_text}
+use Rattle.text_numbers.specs.Numbers.{negative, digits_to, number_to, read_number, above_of, below_of, read_signed, signed_text}
 use Rattle.text_fields.specs.Spelling.{decimal-digit, decimal-tens, by-digits, decimal-some, decimal-first, decimal-lead, length-tens}
 use Rattle.text_numbers.specs.declared.Number.{Number}
 use Rattle.text_numbers.specs.declared.Number.TheVariants.{Value, Malformed}
@@ -171,39 +171,52 @@ above-text f (Value v) z e q =
     let s : pos v ≡ z = cc in
     rw (← s) (t.0, (refl, le-leb v 32767 t.1))
 
-below-text : (bs : List ℕ) (n : Number) (z : ℤ) → n ≡ number_to 32768 bs → below_of n ≡ signed.Value z → (45 ∷ bs ≡ signed_text z) × InRange z
-unfolding signed_text
-below-text bs Malformed z e q = absurd (let k : ◌≡◌ {A = ℕ} 0 1 = cc in omega arith)
-below-text bs (Value zero) z e q = absurd (let k : ◌≡◌ {A = ℕ} 0 1 = cc in omega arith)
-below-text bs (Value (suc v)) z e q =
-    let t = number-text 32768 bs (suc v) (sym e) in
-    let s : negsuc v ≡ z = cc in
-    rw (← s) (ap (λ (l : List ℕ). 45 ∷ l) t.0, (le-leb v 32767 (omega (arith, t.1)), refl))
-
--- a field that is read as z is the text of z, and z is in range
-pub signed-text : (f : List ℕ) (z : ℤ) → read_signed f ≡ signed.Value z → (f ≡ signed_text z) × InRange z
-unfolding read_signed
-signed-text [] z q = absurd (let k : ◌≡◌ {A = ℕ} 0 1 = cc in omega arith)
-signed-text (b ∷ bs) z q =
-    by-test (eqb b 45)
-    (λ t.
-    let r = below-text bs (number_to 32768 bs) z refl (rw t at q) in
-    (ap (λ (a : ℕ). a ∷ bs) (eqb-true b 45 t) ∙ r.0, r.1))
-    (λ t. above-text (b ∷ bs) (number_to 32767 (b ∷ bs)) z refl (rw t at q))
-
 unsigned : (f : List ℕ) → 0 < length f → 48 ≤ get_or f 0 0 → read_signed f ≡ above_of (number_to 32767 f)
 unfolding read_signed
 unsigned [] h l = absurd (omega arith)
 unsigned (b ∷ bs) h l = rw (ne_eqb b 45 (λ e. omega arith))
 
+-- what is asked of minus v
+abbrev Minus : Type 0
+Minus = (v : ℕ) → negative (suc v) ≡ negsuc v
+
+below-text : Minus → (bs : List ℕ) (n : Number) (z : ℤ) → n ≡ number_to 32768 bs → below_of n ≡ signed.Value z → (45 ∷ bs ≡ signed_text z) × InRange z
+unfolding signed_text
+below-text m bs Malformed z e q = absurd (let k : ◌≡◌ {A = ℕ} 0 1 = cc in omega arith)
+below-text m bs (Value zero) z e q = absurd (let k : ◌≡◌ {A = ℕ} 0 1 = cc in omega arith)
+below-text m bs (Value (suc v)) z e q =
+    let t = number-text 32768 bs (suc v) (sym e) in
+    let p : signed.Value (negative (suc v)) ≡ signed.Value z = q in
+    let n : negative (suc v) ≡ negsuc v = m v in
+    let s : negsuc v ≡ z = cc in
+    rw (← s) (ap (λ (l : List ℕ). 45 ∷ l) t.0, (le-leb v 32767 (omega (arith, t.1)), refl))
+
+text-of : Minus → (f : List ℕ) (z : ℤ) → read_signed f ≡ signed.Value z → (f ≡ signed_text z) × InRange z
+unfolding read_signed
+text-of m [] z q = absurd (let k : ◌≡◌ {A = ℕ} 0 1 = cc in omega arith)
+text-of m (b ∷ bs) z q =
+    by-test (eqb b 45)
+    (λ t.
+    let r = below-text m bs (number_to 32768 bs) z refl (rw t at q) in
+    (ap (λ (a : ℕ). a ∷ bs) (eqb-true b 45 t) ∙ r.0, r.1))
+    (λ t. above-text (b ∷ bs) (number_to 32767 (b ∷ bs)) z refl (rw t at q))
+
+read-of : Minus → (z : ℤ) → InRange z → read_signed (signed_text z) ≡ signed.Value z
+unfolding read_signed signed_text
+read-of m (pos v) r =
+    unsigned (decimal v) (decimal-some v) (decimal-first v) ∙ ap above_of (number-read 32767 v (leb-true v 32767 r.1))
+read-of m (negsuc v) r =
+    ap below_of (number-read 32768 (suc v) (let k = leb-true v 32767 r.0 in omega arith)) ∙ ap signed.Value (m v)
+
+-- a field that is read as z is the text of z, and z is in range
+pub signed-text : (f : List ℕ) (z : ℤ) → read_signed f ≡ signed.Value z → (f ≡ signed_text z) × InRange z
+signed-text = text-of (λ v. refl)
+
 -- the text of a number in range is read as that number
 pub signed-read : (z : ℤ) → InRange z → read_signed (signed_text z) ≡ signed.Value z
-unfolding read_signed signed_text
-signed-read (pos v) r =
-    unsigned (decimal v) (decimal-some v) (decimal-first v) ∙ ap above_of (number-read 32767 v (leb-true v 32767 r.1))
-signed-read (negsuc v) r = ap below_of (number-read 32768 (suc v) (let k = leb-true v 32767 r.0 in omega arith))
+signed-read = read-of (λ v. refl)
 
 -- a field is read as z exactly if it is the text of z and z is -32768..32767
 pub signed-exactly : (f : List ℕ) (z : ℤ) → (read_signed f ≡ signed.Value z → (f ≡ signed_text z) × InRange z)
     × ((f ≡ signed_text z) × InRange z → read_signed f ≡ signed.Value z)
-signed-exactly f z = (signed-text f z, λ p. ap read_signed p.0 ∙ signed-read z p.1)
+signed-exactly f z = (text-of (λ v. refl) f z, λ p. ap read_signed p.0 ∙ read-of (λ v. refl) z p.1)

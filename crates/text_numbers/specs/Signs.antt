@@ -82,17 +82,21 @@ no-field x e = rw e
 
 -- a field that starts with a minus, and one that doesn't
 module _ (line : List ℕ) (from : ℕ) where
-  pub minus-field : has_minus line from ≡ true → field_at line from ≡ 45 ∷ field_at line (from + 1)
+  minus-first : ltb from (length line) ≡ true → eqb (get_or line from 0) 45 ≡ true → field_at line from ≡ 45 ∷ field_at line (from + 1)
   unfolding before
-  minus-field t =
-      let h = ltb-true from (length line) (and-left _ _ t) in
-      let e = eqb-true (get_or line from 0) 45 (and-right (ltb from (length line)) _ t) in
+  minus-first s t =
+      let h = ltb-true from (length line) s in
+      let e = eqb-true (get_or line from 0) 45 t in
       let k : suc from ≡ from + 1 = omega arith in
       rw (drop-cons line from 0 h, e) (ap (λ (j : ℕ). 45 ∷ before 9 (drop j line)) k)
 
+  pub minus-field : has_minus line from ≡ true → field_at line from ≡ 45 ∷ field_at line (from + 1)
+  minus-field t = minus-first (and-left _ _ t) (and-right (ltb from (length line)) _ t)
+
   pub minus-signed : has_minus line from ≡ true → read_signed (field_at line from) ≡ signed_number true (read_number (field_at line (from + 1)))
   unfolding read_signed
-  minus-signed t = ap read_signed (minus-field t) ∙ signed-below (field_at line (from + 1))
+  minus-signed t =
+      ap read_signed (minus-first (and-left _ _ t) (and-right (ltb from (length line)) _ t)) ∙ signed-below (field_at line (from + 1))
 
   pub plain-signed : has_minus line from ≡ false → read_signed (field_at line from) ≡ signed_number false (read_number (field_at line from))
   plain-signed t =
