@@ -180,16 +180,19 @@ unsigned (b ∷ bs) h l = rw (ne_eqb b 45 (λ e. omega arith))
 abbrev Minus : Type 0
 Minus = (v : ℕ) → negative (suc v) ≡ negsuc v
 
-below-text : Minus → (bs : List ℕ) (n : Number) (z : ℤ) → n ≡ number_to 32768 bs → below_of n ≡ signed.Value z → (45 ∷ bs ≡ signed_text z) × InRange z
+below-text-by : Minus → (bs : List ℕ) (n : Number) (z : ℤ) → n ≡ number_to 32768 bs → below_of n ≡ signed.Value z → (45 ∷ bs ≡ signed_text z) × InRange z
 unfolding signed_text
-below-text m bs Malformed z e q = absurd (let k : ◌≡◌ {A = ℕ} 0 1 = cc in omega arith)
-below-text m bs (Value zero) z e q = absurd (let k : ◌≡◌ {A = ℕ} 0 1 = cc in omega arith)
-below-text m bs (Value (suc v)) z e q =
+below-text-by m bs Malformed z e q = absurd (let k : ◌≡◌ {A = ℕ} 0 1 = cc in omega arith)
+below-text-by m bs (Value zero) z e q = absurd (let k : ◌≡◌ {A = ℕ} 0 1 = cc in omega arith)
+below-text-by m bs (Value (suc v)) z e q =
     let t = number-text 32768 bs (suc v) (sym e) in
     let p : signed.Value (negative (suc v)) ≡ signed.Value z = q in
     let n : negative (suc v) ≡ negsuc v = m v in
     let s : negsuc v ≡ z = cc in
     rw (← s) (ap (λ (l : List ℕ). 45 ∷ l) t.0, (le-leb v 32767 (omega (arith, t.1)), refl))
+
+below-text : (bs : List ℕ) (n : Number) (z : ℤ) → n ≡ number_to 32768 bs → below_of n ≡ signed.Value z → (45 ∷ bs ≡ signed_text z) × InRange z
+below-text = below-text-by (λ v. refl)
 
 text-of : Minus → (f : List ℕ) (z : ℤ) → read_signed f ≡ signed.Value z → (f ≡ signed_text z) × InRange z
 unfolding read_signed
@@ -197,7 +200,7 @@ text-of m [] z q = absurd (let k : ◌≡◌ {A = ℕ} 0 1 = cc in omega arith)
 text-of m (b ∷ bs) z q =
     by-test (eqb b 45)
     (λ t.
-    let r = below-text m bs (number_to 32768 bs) z refl (rw t at q) in
+    let r = below-text-by m bs (number_to 32768 bs) z refl (rw t at q) in
     (ap (λ (a : ℕ). a ∷ bs) (eqb-true b 45 t) ∙ r.0, r.1))
     (λ t. above-text (b ∷ bs) (number_to 32767 (b ∷ bs)) z refl (rw t at q))
 
