@@ -9,10 +9,6 @@ use Rattle.sheet_read.specs.Reading.{bad_in, page_said, taken_for, taken_in, rea
 use Rattle.sheet_read.specs.Unjudged.{sized_for, sized_in, words_verdict, words_in}
 
 module _ (s d : List ℕ) (k w : ℕ) where
-  taken-kept : taken_for s (length d) ≡ Refused k w → taken_in s d ≡ d
-  unfolding taken_in
-  taken-kept e = rw e
-
   sized-kept : sized_for s (length d) ≡ Refused k w → sized_in s d ≡ d
   unfolding sized_for sized_in
   sized-kept e =
@@ -23,11 +19,14 @@ module _ (s d : List ℕ) (k w : ℕ) where
 module _ (t d : List ℕ) (k w : ℕ) where
   -- "A refused sheet leaves the page buffer untouched", whatever the refusal: a bad line, the buffer's size, or the page's own.
   pub refused-kept : read_verdict t (length d) ≡ Refused k w → page_in t d ≡ d
-  unfolding read_verdict page_in
+  unfolding read_verdict page_in taken_in
   refused-kept e =
       by-test (eqb (bad_in t) 0)
-      (λ q. rw q (taken-kept (page_said t) d k w (rw q at e)))
+      (λ q. rw q (taken-kept (page_said t) (rw q at e)))
       (λ q. rw q)
+    where
+      taken-kept : (s : List ℕ) → taken_for s (length d) ≡ Refused k w → taken_in s d ≡ d
+      taken-kept s e = rw e
 
   -- And so does one that is read without the judge.
   pub words-kept : words_verdict t (length d) ≡ Refused k w → words_in t d ≡ d
