@@ -1,6 +1,6 @@
 # plot: what is drawn, few samples, many samples, refused lines, names, where the picture goes, and what cannot be done. Read by tests/people/run.
 
-page=tests/examples/tour.page log=tests/examples/tour.log keeping=$here/$made/keeping failing=$here/$made/failing
+page=tests/examples/tour.page log=tests/examples/tour.log keeping=$made/keeping failing=$made/failing
 mkdir -p "$made/pictures"
 
 # Draws with the gnuplot that keeps its program.
@@ -86,14 +86,14 @@ for level in 4250 4150 3900 65 60 58 55 45 40 3000 2500 100 -100 -6000 -9000 -20
 done >"$made/got"
 none 'each of them has its line' "$(cat "$made/got")"
 cp "$made/program" "$made/program.tour"
-cat "$log" | PATH=$keeping:$PATH KEPT=$here/$made/program.pipe ./keeper plot "$page" - "$made/kept.svg" 2>/dev/null
+cat "$log" | PATH=$keeping:$PATH KEPT=$made/program.pipe ./keeper plot "$page" - "$made/kept.svg" 2>/dev/null
 # A name in the title, as the program has it.
 escaped() { printf %s "$1" | od -An -v -to1 | tr -d '\n' | tr ' ' '\\'; }
 says 'a log from standard input is drawn the same' "$(grep -v '^set label ".*page' "$made/program")" "$(grep -v '^set label ".*page' "$made/program.pipe")"
 says 'and has its name' 1 "$(grep -c -F "\"$(escaped 'standard input'), page $(escaped tour.page): " "$made/program.pipe")"
 
 # ---- a page of 160 bytes: ten protections, and why the cold ones rise
-PATH=$keeping:$PATH KEPT=$here/$made/program.winter ./keeper plot tests/examples/winter.page tests/examples/winter.log "$made/kept.svg" 2>/dev/null
+PATH=$keeping:$PATH KEPT=$made/program.winter ./keeper plot tests/examples/winter.page tests/examples/winter.log "$made/kept.svg" 2>/dev/null
 says 'a page of 160 bytes has the names of ten protections' "$(cut -f 2 "$made/table.p")" "$(names_drawn "$made/program.winter")"
 samples_of tests/examples/winter.log tests/examples/winter.out >"$made/samples.winter"
 says 'the bars of the cold protections' "$(bits "$made/samples.winter" 4 10)" "$(awk -v head="\$raised << END" '$0 == head { on = 1; next } $0 == "END" { on = 0 } on' "$made/program.winter" | areas)"
@@ -113,7 +113,7 @@ for one in mawk gawk 'busybox awk' original-awk; do
     command -v "${one%% *}" >/dev/null 2>&1 || continue
     printf '#!/bin/sh\nexec %s "$@"\n' "$one" >"$made/one/awk"
     chmod +x "$made/one/awk"
-    PATH=$here/$made/one:$keeping:$PATH KEPT=$here/$made/program.one ./keeper plot "$made/two.page" "$made/frost.log" "$made/kept.svg" 2>/dev/null
+    PATH=$made/one:$keeping:$PATH KEPT=$made/program.one ./keeper plot "$made/two.page" "$made/frost.log" "$made/kept.svg" 2>/dev/null
     same "drawn by $one" "$made/program" "$made/program.one"
 done
 
@@ -229,7 +229,7 @@ mkdir -p "$made/modeless"
 printf '#!/bin/sh\necho "chmod: Operation not permitted" >&2\nexit 1\n' >"$made/modeless/chmod"
 chmod +x "$made/modeless/chmod"
 rm -f "$made/pictures/new.svg"
-PATH=$here/$made/modeless:$PATH draw "$made/two.page" "$made/few.log" "$made/pictures/new.svg"
+PATH=$made/modeless:$PATH draw "$made/two.page" "$made/few.log" "$made/pictures/new.svg"
 says 'a disk that keeps no modes' '0  <svg></svg>' "$? $(cat "$made/said") $(cat "$made/pictures/new.svg")"
 ln -s new.svg "$made/pictures/link.svg"
 into 'a link stays a link' '0  symbolic link 777' "$made/pictures/link.svg"
@@ -322,7 +322,7 @@ sleep 60 <>"$made/endless" &
 writer=$! groups="$groups $!"
 for case in 'TERM 143' 'HUP 129'; do
     signal=${case% *}
-    TMPDIR=$here/$made/tmp PATH=$keeping:$PATH env --default-signal=HUP ./keeper plot "$page" "$made/endless" "$made/pictures/x.svg" >"$made/got" 2>&1 &
+    TMPDIR=$made/tmp PATH=$keeping:$PATH env --default-signal=HUP ./keeper plot "$page" "$made/endless" "$made/pictures/x.svg" >"$made/got" 2>&1 &
     begun=$!
     for patience in 1 2 3 4 5 6 7 8 9 10; do
         ls "$made/tmp"/*/*/log >/dev/null 2>&1 && break
@@ -352,7 +352,7 @@ rm -f "$made/million.log"
 # ---- each shell draws the same
 for shell in dash bash 'busybox sh'; do
     command -v "${shell%% *}" >/dev/null 2>&1 || continue
-    PATH=$keeping:$PATH KEPT=$here/$made/program.shell $shell tools/plot "$page" "$log" "$made/kept.svg" 2>/dev/null
+    PATH=$keeping:$PATH KEPT=$made/program.shell $shell tools/plot "$page" "$log" "$made/kept.svg" 2>/dev/null
     draw "$page" "$log"
     same "drawn by $shell" "$made/program" "$made/program.shell"
 done
@@ -362,9 +362,9 @@ for one in $(printf '%s\n' "$PATH" | tr ':' '\n' | while IFS= read -r folder; do
     case ${one##*/} in gnuplot* | apt-get) continue ;; esac
     [ -e "$made/bare/${one##*/}" ] || ln -s "$one" "$made/bare/${one##*/}" 2>/dev/null
 done
-printf '#!/bin/sh\necho called >>%s/apt\nln -sf %s/gnuplot %s/gnuplot\n' "'$here/$made'" "'$keeping'" "'$here/$made/bare'" >"$made/bare/apt-get"
+printf '#!/bin/sh\necho called >>%s/apt\nln -sf %s/gnuplot %s/gnuplot\n' "'$made'" "'$keeping'" "'$made/bare'" >"$made/bare/apt-get"
 chmod +x "$made/bare/apt-get"
-PATH=$here/$made/bare ./keeper plot "$page" "$log" "$made/pictures/new.svg" 2>"$made/said"
+PATH=$made/bare ./keeper plot "$page" "$log" "$made/pictures/new.svg" 2>"$made/said"
 says 'without gnuplot: status, sentence, no file' "1 keeper: plot draws with gnuplot, which is not on the PATH: type 'apt-get install gnuplot-nox' as root (Debian, Ubuntu), then draw again " \
     "$? $(cat "$made/said") $(ls -A "$made/pictures")"
 says 'nothing is installed by a drawing' '' "$(cat "$made/apt" 2>/dev/null)"
@@ -385,8 +385,8 @@ if ! command -v gnuplot >/dev/null 2>&1 && command -v apt-get >/dev/null 2>&1; t
 fi
 if command -v gnuplot >/dev/null 2>&1; then
     mkdir -p "$made/home"
-    printf 'set output "%s/elsewhere.svg"\nset terminal dumb\n' "$here/$made" >"$made/home/.gnuplot"
-    HOME=$here/$made/home GNUTERM=dumb ./keeper plot "$page" "$log" "$made/tour.svg" 2>"$made/said"
+    printf 'set output "%s/elsewhere.svg"\nset terminal dumb\n' "$made" >"$made/home/.gnuplot"
+    HOME=$made/home GNUTERM=dumb ./keeper plot "$page" "$log" "$made/tour.svg" 2>"$made/said"
     whole "the tour's picture, with a .gnuplot at home," "$made/tour.svg"
     cp "$log" "$made/Lötstelle <&>.log"
     ./keeper plot "$page" "$made/Lötstelle <&>.log" "$made/names.svg" 2>"$made/said"

@@ -81,12 +81,12 @@ for one in mawk gawk 'busybox awk' original-awk; do
     printf '#!/bin/sh\nexec %s "$@"\n' "$one" >"$made/bin/awk"
     chmod +x "$made/bin/awk"
     {
-        PATH=$here/$made/bin:$PATH ./keeper replay --explain tests/examples/worked.page "$made/wrong.log" | cmp - "$made/wrong.out"
-        PATH=$here/$made/bin:$PATH ./keeper replay --explain tests/examples/tour.page tests/examples/tour.log | cmp - "$made/tour.told"
-        [ "$(PATH=$here/$made/bin:$PATH ./keeper judge "$made/cut16.page")" = "$(./keeper judge "$made/cut16.page")" ] || echo 'judge differs'
-        [ "$(PATH=$here/$made/bin:$PATH ./keeper explain)" = "$(./keeper explain)" ] || echo 'explain differs'
-        PATH=$here/$made/bin:$PATH ./keeper replay --explain tests/examples/tour.page tests/examples/tour.log 2>/dev/null >/dev/full && echo 'it does not say that it could not write'
-        draw_by "$here/$made/bin" | cmp - "$made/tour.drawn"
+        PATH=$made/bin:$PATH ./keeper replay --explain tests/examples/worked.page "$made/wrong.log" | cmp - "$made/wrong.out"
+        PATH=$made/bin:$PATH ./keeper replay --explain tests/examples/tour.page tests/examples/tour.log | cmp - "$made/tour.told"
+        [ "$(PATH=$made/bin:$PATH ./keeper judge "$made/cut16.page")" = "$(./keeper judge "$made/cut16.page")" ] || echo 'judge differs'
+        [ "$(PATH=$made/bin:$PATH ./keeper explain)" = "$(./keeper explain)" ] || echo 'explain differs'
+        PATH=$made/bin:$PATH ./keeper replay --explain tests/examples/tour.page tests/examples/tour.log 2>/dev/null >/dev/full && echo 'it does not say that it could not write'
+        draw_by "$made/bin" | cmp - "$made/tour.drawn"
     } >"$made/differ" 2>&1
     none "$one says the same" "$(cat "$made/differ")"
 done
