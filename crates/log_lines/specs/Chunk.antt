@@ -14,7 +14,7 @@ use Rattle.text_writing.specs.Putting.{put-place, put-length, put-front, put-res
 use Rattle.log_lines.specs.Lines.{plain, end_of}
 use Rattle.log_lines.specs.Walking.{whole, whole-none, whole-left, not-plain, Ended, ended-line, ended-rest, ended-splits, ended-plain}
 use Rattle.log_lines.specs.Output.{written, with_answer, Sofar}
-use Rattle.log_lines.specs.Folded.{passed-start, passed-line}
+use Rattle.log_lines.specs.Folded.{behind_lines, passed-start, passed-line-by}
 
 -- How far a chunk is answered: the bytes used, the text written, the state.
 pub record Reached (S : Type 0) : Type 0 where
@@ -103,7 +103,7 @@ module _ {S : Type 0} (next : S → List ℕ → S) (answer : S → List ℕ →
       pub going-on : w + room ≤ length o → (t : List ℕ) (q : S) (r : ℕ) (e : List ℕ) → length t ≤ room
           → t ≡ answer k (take (end - at) (drop at text)) → q ≡ next k (take (end - at) (drop at text))
           → Put o w t r e → Going text d s on r q e
-      unfolding answer_lines
+      unfolding answer_lines behind_lines
       going-on h t q r e few et eq p =
           let l : List ℕ = take (end - at) (drop at text) in
           let same : before 10 (drop at text) ≡ l = sym (ended-line text at end on n) in
@@ -127,7 +127,7 @@ module _ {S : Type 0} (next : S → List ℕ → S) (answer : S → List ℕ →
                 ∙ drop-drop (length t) w d ∙ ap (λ (j : ℕ). drop j d) (sym place);
             way = rw front (sym step ∙ sym (ap (answer_lines (length d) (reached at (take w o) k)) first) ∙ g.way);
             sofar = rw (front, et, eq)
-                (passed-line (with_answer next answer) (written [] s) text (written (take w o) k) l (drop on text) (ended-plain text at end on n)
+                (passed-line-by (with_answer next answer) (λ v m ls. refl) (written [] s) text (written (take w o) k) l (drop on text) (ended-plain text at end on n)
                 (subst (λ (z : List ℕ). Sofar next answer s text (take w o) k z) (ended-splits text at end on n) g.sofar));
           }
 
