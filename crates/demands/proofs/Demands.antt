@@ -56,9 +56,11 @@ use Rattle.log_entries.specs.Entry as entry
 use Rattle.log_entries.specs.Entry.{read_entry}
 use Rattle.log_lines.specs.Lines.{lines_of}
 use Rattle.log_answers.specs.declared.Told.TheVariants as told
-use Rattle.log_answers.specs.Says.{says, line-told}
+use Rattle.log_answers.specs.Says.{says}
+use Rattle.log_answers.proofs.Says.{line-told}
 use Rattle.log_answers.specs.Tell.{tell}
-use Rattle.log_answers.specs.Seventeen.{is_seventeen, is_malformed, seventeen-exactly}
+use Rattle.log_answers.specs.Seventeen.{is_seventeen, is_malformed}
+use Rattle.log_answers.proofs.Seventeen.{seventeen-exactly}
 use Rattle.log_texts.specs.Texts.{header_text}
 use Rattle.pack_log.specs.Replay.{replayed}
 use Rattle.demands.specs.Answers as answers

@@ -13,7 +13,8 @@ use Rattle.pack.specs.After.{after}
 use Rattle.log_lines.specs.Lines.{lines_of}
 use Rattle.log_lines.specs.Output as any
 use Rattle.log_answers.specs.declared.Told.{Told}
-use Rattle.log_answers.specs.Says.{events_with, says, line-told, line-pack}
+use Rattle.log_answers.specs.Says.{events_with, says}
+use Rattle.log_answers.proofs.Says.{line-told, line-pack}
 use Rattle.log_texts.specs.Texts.{told_text, header_text}
 use Rattle.pack_log.specs.Replay.{next_pack, line_text, replayed}
 

@@ -1,20 +1,11 @@
--- "A malformed line is no sample and no command: it gives 17, whatever other row seems to fit." So a line is refused with 17 exactly if it
--- is malformed: no sample and no command ever is.
+-- "A malformed line is no sample and no command: it gives 17, whatever other row seems to fit." That a line is refused with 17 exactly if it
+-- is malformed is shown in proofs/Seventeen.
 -- Assumes nothing.
-use Rattle.std.specs.Prelude.{◌≡◌, refl, Bool, true, false, ◌&&◌, List, ℕ, leb, eqb}
-use Rattle.laws.specs.Tests.{by-test}
-use Rattle.sample.specs.declared.Sample.{Sample}
-use Rattle.units.specs.Cells.{ten_at_most}
-use Rattle.pack_refusals.specs.Samples.{cells_fit, temperature_fits, exact_count, sample_refusals, sample_verdict, command_refusals, command_verdict}
-use Rattle.pack_state.specs.declared.Pack.{Pack}
-use Rattle.pack.specs.Answers.{offered, commanded}
+use Rattle.std.specs.Prelude.{Bool, true, false, eqb}
 use Rattle.log_entries.specs.declared.Kind.{Kind}
 use Rattle.log_entries.specs.declared.Kind.TheVariants.{Offer, Command, Malformed}
-use Rattle.log_entries.specs.declared.Entry.{Entry}
-use Rattle.log_entries.specs.Entry.{read_entry}
 use Rattle.log_answers.specs.declared.Told.{Told}
 use Rattle.log_answers.specs.declared.Told.TheVariants.{Decided, Refused}
-use Rattle.log_answers.specs.Tell.{told_of, answered_as, outcome_of, tell}
 
 -- Whether a line was refused with 17.
 abbrev pub is_seventeen : Told → Bool
@@ -26,28 +17,3 @@ abbrev pub is_malformed : Kind → Bool
 is_malformed Offer = false
 is_malformed Command = false
 is_malformed Malformed = true
-
-sample-never : (n : ℕ) (s : Sample) (p : Pack) → is_seventeen (told_of (sample_verdict n s) p) ≡ false
-unfolding sample_verdict sample_refusals
-sample-never n s p =
-    by-test (exact_count n s.count)
-    (λ a. rw a
-    (by-test (cells_fit s.cells (ten_at_most s.count))
-    (λ b. rw b (by-test (temperature_fits s.t1.0 && temperature_fits s.t2.0) (λ d. rw d) (λ d. rw d)))
-    (λ b. rw b)))
-    (λ a. rw a)
-
-command-never : (c : ℕ) (p : Pack) → is_seventeen (told_of (command_verdict c) p) ≡ false
-unfolding command_verdict command_refusals
-command-never c p = by-test (leb c 3) (λ a. rw a) (λ a. rw a)
-
-by-kind : (k : Kind) (p : Pack) (e : Entry) → is_seventeen (outcome_of k (answered_as k p e)).told ≡ is_malformed k
-unfolding outcome_of offered commanded
-by-kind Offer p e = sample-never p.rules.n e.sample _
-by-kind Command p e = command-never e.command _
-by-kind Malformed p e = refl
-
--- For every pack and every sequence of bytes.
-pub seventeen-exactly : (p : Pack) (line : List ℕ) → is_seventeen (tell p line).told ≡ is_malformed (read_entry line).kind
-unfolding tell
-seventeen-exactly p line = by-kind (read_entry line).kind p (read_entry line)

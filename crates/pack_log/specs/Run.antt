@@ -13,7 +13,8 @@ use Rattle.pack_state.specs.declared.Pack.{Pack}
 use Rattle.pack.specs.Events.{Event}
 use Rattle.pack.specs.Kept.{after_load}
 use Rattle.pack.specs.After.{after}
-use Rattle.log_answers.specs.Says.{events_with, events_behind, line-pack}
+use Rattle.log_answers.specs.Says.{events_with, events_behind}
+use Rattle.log_answers.proofs.Says.{line-pack}
 use Rattle.log_texts.specs.Texts.{header_text, opening_text}
 use Rattle.log_texts.specs.Room.{room}
 use Rattle.pack_log.specs.Replay.{next_pack, line_text, no_text, pack_behind, replayed, alike}

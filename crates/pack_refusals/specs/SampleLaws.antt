@@ -112,11 +112,6 @@ module _ (e : Extremes) (n : ℕ) (s : Sample) where
   unfolding verdict_by
   by-last h q fits = rw (exact-count n s.count h, eq-eqb s.count n q, le-leb e.highest.volts.0 6000 fits)
 
-  -- The verdict by a sample's own highest and lowest cell is the table's, and so are its number and word.
-  pub by-answer : (v : Verdict) → v ≡ verdict_by e n s
-      → (v ≡ verdict_by e n s) × (e ≡ extremes_of s.cells s.count → (v ≡ sample_verdict n s) × (answer_of v ≡ given (sample_refusals n s)))
-  by-answer v ev = (ev, λ own. sample-answer n s v (ev ∙ ap (λ (x : Extremes). verdict_by x n s) own ∙ verdict-is n s))
-
 -- An accepted sample has exactly n cells.
 pub sample-exact : (n : ℕ) (s : Sample) → sample_verdict n s ≡ Accepted → s.count ≡ n
 unfolding sample_verdict sample_refusals

@@ -1,7 +1,6 @@
 -- `log_answers::outcome_of` meets its contract. Assumes nothing.
 use Rattle.log_answers.specs.Tell.{outcome_of}
 use Rattle.pack.specs.Calls.{kept-watched}
-use borrow.Author.Rules.{rules}
 use Rattle.log_answers.proofs.outcome_of.Goals as goal
 
 pub decide-d-requires : goal.decide-d-requires

@@ -1,6 +1,5 @@
 -- `log_answers::tell` meets its contract. Assumes nothing.
 use Rattle.log_answers.specs.Tell.{tell-read}
-use borrow.Author.Rules.{rules}
 use Rattle.log_answers.proofs.tell.Goals as goal
 
 pub returns : goal.returns

@@ -1,6 +1,5 @@
 -- `log_answers::tell_entry` meets its contract. Assumes nothing.
 use Rattle.log_answers.specs.Tell.{entry-made}
-use borrow.Author.Rules.{rules}
 use Rattle.log_answers.proofs.tell_entry.Goals as goal
 
 pub outcome_of-requires : goal.outcome_of-requires

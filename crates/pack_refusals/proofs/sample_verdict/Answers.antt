@@ -1,7 +1,8 @@
 -- `pack_refusals::sample_verdict` meets its contract. Assumes nothing.
 use mathlib.Core.Path.{sym, ◌∙◌}
 use native.Mathlib.Omega.{arith}
-use Rattle.pack_refusals.specs.SampleLaws.{by-none, by-count, by-cells, by-last, by-answer}
+use Rattle.pack_refusals.specs.SampleLaws.{by-none, by-count, by-cells, by-last}
+use Rattle.pack_refusals.proofs.ByAnswer.{by-answer}
 use Rattle.pack_refusals.proofs.sample_verdict.Goals as goal
 
 pub returns-then-n-eq0 : goal.returns-then-n-eq0
