@@ -61,9 +61,10 @@ prover() { # TREE WORD NAME WORDS..
     (cd "$in_tree/crates/$of" && exec "$kit/bin/rattle" "$verb" "$@")
 }
 
-# The libraries below are taken as they are built: who calls this has had rt build them, or they are those that rt ci has built.
+# The libraries below are taken as they are built: who calls this has had rt build them, or they are those that rt ci has built. What the prover has for a
+# while goes into the caller's folder `room`.
 prove_object() { # NAME MACHINE OUTPUT
-    prover "$here" build "$1" --jobs "${JOBS:-1}" --target "$2-unknown-linux-gnu" --toolchain "$toolchain" -o "$3"
+    TMPDIR=$room prover "$here" build "$1" --jobs "${JOBS:-1}" --target "$2-unknown-linux-gnu" --toolchain "$toolchain" -o "$3"
 }
 
 # What the mark of another machine's object says: the program's object for x86-64 that was proved of the same files, and this one.
