@@ -5,7 +5,7 @@ use Rattle.pack_refusals.specs.SampleLaws.{command-fits, command-over, command-a
 use Rattle.pack_refusals.proofs.command_verdict.Goals as goal
 
 pub returns-then-c-le3 : goal.returns-then-c-le3
-returns-then-c-le3 c = let h = c.if-c-le3.true in command-answer _ _ (sym (command-fits _ (omega arith)))
+returns-then-c-le3 c = command-answer _ _ (sym (command-fits _ (omega arith)))
 
 pub returns : goal.returns
-returns c = let h = c.if-c-le3.false in command-answer _ _ (c.refused.ensures ∙ sym (command-over _ (omega arith)))
+returns c = command-answer _ _ (c.refused.ensures ∙ sym (command-over _ (omega arith)))

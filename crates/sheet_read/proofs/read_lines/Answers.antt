@@ -48,4 +48,4 @@ pub shape_of-draft : goal.shape_of-draft
 shape_of-draft c = c.loop-left.invariant.4
 
 pub returns : goal.returns
-returns c = let l = c.loop-left in let e = going-end l.invariant.0 (omega arith) (omega arith) c.if-at-text.false in record { value = e.0; draft_after = λ z. e.1 }
+returns c = let l = c.loop-left in let e = going-end l.invariant.0 (omega arith) (omega arith) (omega arith) in record { value = e.0; draft_after = λ z. e.1 }

@@ -14,4 +14,4 @@ pub returns-then-field-eq48 : goal.returns-then-field-eq48
 returns-then-field-eq48 c = sym (number-zero _ _ (omega arith) c.if-field-eq48.true)
 
 pub returns : goal.returns
-returns c = c.digits-2.ensures ∙ sym (number-other _ _ (omega arith) c.if-field-eq48.false)
+returns c = c.digits-2.ensures ∙ sym (number-other _ _ (omega arith) (λ e. omega arith))
