@@ -3,7 +3,7 @@
 use Rattle.std.specs.Prelude.{◌≡◌, refl, Bool, true, false, List, [], ◌∷◌, map}
 use Rattle.refusals.specs.Refusals.{rule, whole, Refusal, refusal, answer, given, rows_from}
 use Rattle.refusals.specs.Answers.{answer_of}
-use Rattle.refusals.specs.declared.Verdict.TheVariants.{Accepted, Refused}
+use Rattle.refusals.specs.Verdicts.{Accepted, Refused}
 
 -- A row of the whole, and two rows of words, each with one rule met and two that may be broken.
 abbrev table : Bool → Bool → Bool → List Refusal

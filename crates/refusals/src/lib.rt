@@ -2,22 +2,21 @@
 
 #![tactic(auto)]
 
-ghost use Rattle.std.specs.Prelude.{◌≡◌};
-ghost use Rattle.refusals.specs.declared.Verdict.{Verdict};
+ghost use Rattle.std.specs.Prelude.{◌≡◌, Err};
 
-// Accepted, or refused with document 01's number and the word at fault; what is no page names word 0.
-#[derive(Clone, Copy)]
-pub enum Verdict {
-    Accepted,
-    Refused { number: u8, word: u8 },
+// Document 01's number of a refusal, and the word at fault; what is no page names word 0.
+#[derive(Clone, Copy, Debug, PartialEq, Eq)]
+pub struct Refusal {
+    pub number: u8,
+    pub word: u8,
 }
+
+// Accepted, or refused.
+pub type Verdict = Result<(), Refusal>;
 
 // A refusal that names word 0.
 pub fn refused(number: u8) -> Verdict
-    ensures { result ≡ Verdict.Refused number 0 }
+    ensures { result ≡ Err (record { number = number; word = 0 }) }
 {
-    Verdict::Refused {
-        number: number,
-        word: 0,
-    }
+    Err(Refusal { number, word: 0 })
 }
