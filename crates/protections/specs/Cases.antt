@@ -1,37 +1,36 @@
 -- Computed cases that pin the table and the directions against document 01.
 -- Assumes nothing.
-use Rattle.std.specs.Prelude.{◌≡◌, refl, true, false, [], ◌∷◌, pos, negsuc}
+use Rattle.std.specs.Prelude.{◌≡◌, refl, Some, None, true, false, [], ◌∷◌, pos, negsuc}
 use Rattle.protections.specs.declared.Quantity.TheVariants.{HighestCell, LowestCell, Current, Temperature1, Temperature2}
 use Rattle.protections.specs.declared.Direction.TheVariants.{Above, Below}
-use Rattle.protections.specs.declared.Mode.TheVariants.{Silent, Number}
 use Rattle.protections.specs.Direction.{reaches, back_of, in_order}
 use Rattle.protections.specs.Table.{row_with, row_at, table}
 
 -- Over voltage looks at the highest cell and trips at or above; under voltage at the lowest, at or below, and has no mode.
-over-voltage : row_at 0 ≡ row_with HighestCell Above (Number 21)
+over-voltage : row_at 0 ≡ row_with HighestCell Above (Some 21)
 unfolding row_at table
 over-voltage = refl
 
-under-voltage : row_at 1 ≡ row_with LowestCell Below Silent
+under-voltage : row_at 1 ≡ row_with LowestCell Below None
 unfolding row_at table
 under-voltage = refl
 
 -- Charge current trips upward, discharge and short current downward: discharge is negative.
 currents
     : (row_at 2 ∷ row_at 3 ∷ row_at 4 ∷ [])
-    ≡ (row_with Current Above (Number 18) ∷ row_with Current Below (Number 19) ∷ row_with Current Below (Number 20) ∷ [])
+    ≡ (row_with Current Above (Some 18) ∷ row_with Current Below (Some 19) ∷ row_with Current Below (Some 20) ∷ [])
 unfolding row_at table
 currents = refl
 
 -- Both heat protections look at temperature 1, the second thermistor at temperature 2.
 heats
     : (row_at 5 ∷ row_at 6 ∷ row_at 7 ∷ [])
-    ≡ (row_with Temperature1 Above (Number 16) ∷ row_with Temperature1 Above (Number 17) ∷ row_with Temperature2 Above (Number 22) ∷ [])
+    ≡ (row_with Temperature1 Above (Some 16) ∷ row_with Temperature1 Above (Some 17) ∷ row_with Temperature2 Above (Some 22) ∷ [])
 unfolding row_at table
 heats = refl
 
 -- Both cold protections look at temperature 1, trip at or below, and have no mode.
-colds : (row_at 8 ∷ row_at 9 ∷ []) ≡ (row_with Temperature1 Below Silent ∷ row_with Temperature1 Below Silent ∷ [])
+colds : (row_at 8 ∷ row_at 9 ∷ []) ≡ (row_with Temperature1 Below None ∷ row_with Temperature1 Below None ∷ [])
 unfolding row_at table
 colds = refl
 

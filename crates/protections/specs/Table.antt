@@ -1,6 +1,6 @@
 -- The ten protections: document 01's table row by row, and document 02's two for cold packs.
 -- Assumes nothing.
-use Rattle.std.specs.Prelude.{◌≡◌, refl, List, [], ◌∷◌, ℕ, ◌≤◌, ◌<◌, length, get_or}
+use Rattle.std.specs.Prelude.{◌≡◌, refl, Option, Some, None, List, [], ◌∷◌, ℕ, ◌≤◌, ◌<◌, length, get_or}
 use Rattle.std.proofs.Common.{ap, ⊎_elim, eq-or-lt_of_le}
 use Prim.Native.String.{String}
 use Rattle.std.proofs.Math.ListN.{get_or-eq_default}
@@ -9,10 +9,8 @@ use Rattle.protections.specs.declared.Quantity.{Quantity}
 use Rattle.protections.specs.declared.Quantity.TheVariants.{HighestCell, LowestCell, Current, Temperature1, Temperature2}
 use Rattle.protections.specs.declared.Direction.{Direction}
 use Rattle.protections.specs.declared.Direction.TheVariants.{Above, Below}
-use Rattle.protections.specs.declared.Mode.{Mode}
-use Rattle.protections.specs.declared.Mode.TheVariants.{Silent, Number}
 
-abbrev pub row_with : Quantity → Direction → Mode → Row
+abbrev pub row_with : Quantity → Direction → Option ℕ → Row
 row_with q d m = record { quantity = q; direction = d; mode = m }
 
 -- A row with its name.
@@ -20,25 +18,25 @@ pub record Named : Type 0 where
   pub name : String
   pub row : Row
 
-abbrev named : String → Quantity → Direction → Mode → Named
+abbrev named : String → Quantity → Direction → Option ℕ → Named
 named s q d m = record { name = s; row = row_with q d m }
 
 abbrev last : Named
-last = named "discharge cold" Temperature1 Below Silent
+last = named "discharge cold" Temperature1 Below None
 
 -- p is the place in this list. "Two more protections on temperature 1, tripping at or below: 8 for charge, 9 for discharge. They have no
 -- mode number."
 unfoldable pub table : List Named
 table =
-    named "over voltage" HighestCell Above (Number 0x15)
-    ∷ named "under voltage" LowestCell Below Silent
-    ∷ named "over charge current" Current Above (Number 0x12)
-    ∷ named "over discharge current" Current Below (Number 0x13)
-    ∷ named "short current" Current Below (Number 0x14)
-    ∷ named "charge over heat" Temperature1 Above (Number 0x10)
-    ∷ named "discharge over heat" Temperature1 Above (Number 0x11)
-    ∷ named "second thermistor" Temperature2 Above (Number 0x16)
-    ∷ named "charge cold" Temperature1 Below Silent
+    named "over voltage" HighestCell Above (Some 0x15)
+    ∷ named "under voltage" LowestCell Below None
+    ∷ named "over charge current" Current Above (Some 0x12)
+    ∷ named "over discharge current" Current Below (Some 0x13)
+    ∷ named "short current" Current Below (Some 0x14)
+    ∷ named "charge over heat" Temperature1 Above (Some 0x10)
+    ∷ named "discharge over heat" Temperature1 Above (Some 0x11)
+    ∷ named "second thermistor" Temperature2 Above (Some 0x16)
+    ∷ named "charge cold" Temperature1 Below None
     ∷ last
     ∷ []
 

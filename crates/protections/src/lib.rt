@@ -4,7 +4,7 @@
 
 ghost use Rattle.std.specs.Prelude.{◌≡◌};
 ghost use Rattle.protections.specs.Direction.{back_of};
-ghost use Rattle.protections.specs.Table.{row_with, row_at};
+ghost use Rattle.protections.specs.Table.{row_at};
 
 use units::{Level, ProtectionNo};
 
@@ -12,7 +12,7 @@ use units::{Level, ProtectionNo};
 pub const PROTECTIONS: usize = 10;
 
 // What a protection looks at in a sample.
-#[derive(Clone, Copy)]
+#[derive(Clone, Copy, Debug, PartialEq, Eq)]
 pub enum Quantity {
     HighestCell,
     LowestCell,
@@ -22,17 +22,10 @@ pub enum Quantity {
 }
 
 // A protection trips at or above its trip level, or at or below it.
-#[derive(Clone, Copy)]
+#[derive(Clone, Copy, Debug, PartialEq, Eq)]
 pub enum Direction {
     Above,
     Below,
-}
-
-// The number that a raised protection gives command 0x41, if it has one.
-#[derive(Clone, Copy)]
-pub enum Mode {
-    Silent,
-    Number(u8),
 }
 
 // The direction in which a protection releases: the other one.
@@ -47,7 +40,7 @@ pub fn back_of(d: Direction) -> Direction
 
 // What a page says of one protection: its levels, in the unit of what it looks at, the two run lengths, the switch mask.
 #[repr(C)]
-#[derive(Clone, Copy)]
+#[derive(Clone, Copy, Debug, PartialEq, Eq)]
 pub struct Limits {
     pub trip: Level,
     pub release: Level,
@@ -56,39 +49,34 @@ pub struct Limits {
     pub mask: u8,
 }
 
-// A row of the table.
-#[derive(Clone, Copy)]
+// A row of the table. The mode is the number that the raised protection gives command 0x41, if it has one.
+#[derive(Clone, Copy, Debug, PartialEq, Eq)]
 pub struct Row {
     pub quantity: Quantity,
     pub direction: Direction,
-    pub mode: Mode,
-}
-
-fn row_with(quantity: Quantity, direction: Direction, mode: Mode) -> Row
-    ensures { result ≡ row_with quantity direction mode }
-{
-    Row {
-        quantity: quantity,
-        direction: direction,
-        mode: mode,
-    }
+    pub mode: Option<u8>,
 }
 
 // The row of protection p. A number past the table reads as its last row.
+#[tactic(auto, unfolding(crate::specs::Table::row_at, crate::specs::Table::table))]
 pub fn row_of(p: ProtectionNo) -> Row
     ensures { result ≡ row_at p.0 }
 {
-    let k = p.0;
-    match k {
-        0 => row_with(Quantity::HighestCell, Direction::Above, Mode::Number(0x15)),
-        1 => row_with(Quantity::LowestCell, Direction::Below, Mode::Silent),
-        2 => row_with(Quantity::Current, Direction::Above, Mode::Number(0x12)),
-        3 => row_with(Quantity::Current, Direction::Below, Mode::Number(0x13)),
-        4 => row_with(Quantity::Current, Direction::Below, Mode::Number(0x14)),
-        5 => row_with(Quantity::Temperature1, Direction::Above, Mode::Number(0x10)),
-        6 => row_with(Quantity::Temperature1, Direction::Above, Mode::Number(0x11)),
-        7 => row_with(Quantity::Temperature2, Direction::Above, Mode::Number(0x16)),
+    let (quantity, direction, mode) = match p.0 {
+        0 => (Quantity::HighestCell, Direction::Above, Some(0x15)),
+        1 => (Quantity::LowestCell, Direction::Below, None),
+        2 => (Quantity::Current, Direction::Above, Some(0x12)),
+        3 => (Quantity::Current, Direction::Below, Some(0x13)),
+        4 => (Quantity::Current, Direction::Below, Some(0x14)),
+        5 => (Quantity::Temperature1, Direction::Above, Some(0x10)),
+        6 => (Quantity::Temperature1, Direction::Above, Some(0x11)),
+        7 => (Quantity::Temperature2, Direction::Above, Some(0x16)),
         // 8, charge cold, and 9, discharge cold.
-        _ => row_with(Quantity::Temperature1, Direction::Below, Mode::Silent),
+        _ => (Quantity::Temperature1, Direction::Below, None),
+    };
+    Row {
+        quantity,
+        direction,
+        mode,
     }
 }

@@ -8,30 +8,30 @@ ghost use Rattle.units.specs.Signed.{signed_of, word_of};
 
 // Millivolts: a cell, the balance floor and difference, the charging voltage.
 #[repr(C)]
-#[derive(Clone, Copy)]
+#[derive(Clone, Copy, Debug, PartialEq, Eq, PartialOrd, Ord)]
 pub struct MilliVolts(pub u16);
 
 // Tenths of a kelvin: a temperature sample.
 #[repr(C)]
-#[derive(Clone, Copy)]
+#[derive(Clone, Copy, Debug, PartialEq, Eq, PartialOrd, Ord)]
 pub struct DeciKelvin(pub u16);
 
 // The number of a cell, from 1 as document 01 counts them.
 #[repr(C)]
-#[derive(Clone, Copy)]
+#[derive(Clone, Copy, Debug, PartialEq, Eq, PartialOrd, Ord)]
 pub struct CellNo(pub u8);
 
 // The number p of a protection, from 0.
-#[derive(Clone, Copy)]
+#[derive(Clone, Copy, Debug, PartialEq, Eq, PartialOrd, Ord)]
 pub struct ProtectionNo(pub u8);
 
 // What a protection looks at and the levels it is held against, in the unit of the samples: mV, mA or tenths of a kelvin.
 #[repr(C)]
-#[derive(Clone, Copy)]
+#[derive(Clone, Copy, Debug, PartialEq, Eq, PartialOrd, Ord)]
 pub struct Level(pub i32);
 
 // A trip or release level in the unit of the page: mV, mA or degrees.
-#[derive(Clone, Copy)]
+#[derive(Clone, Copy, Debug, PartialEq, Eq, PartialOrd, Ord)]
 pub struct PageLevel(pub i32);
 
 // How many entries of an array of ten are cells: a number over ten stands for ten.
