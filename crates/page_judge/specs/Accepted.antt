@@ -1,6 +1,6 @@
 -- What an accepted page says of each of its words.
 -- Assumes nothing.
-use Rattle.std.specs.Prelude.{◌≡◌, refl, Bool, false, cond, List, leb, eqb, length, get_or, take}
+use Rattle.std.specs.Prelude.{Ok, Err, ◌≡◌, refl, Bool, false, cond, List, leb, eqb, length, get_or, take}
 use Rattle.std.proofs.Common.{sym, ◌∙◌, not-suc-le-zero, zero-add, add-zero, le_refl}
 use Rattle.std.proofs.Math.Path.{subst}
 use Rattle.std.proofs.Math.Bool.{true}
@@ -23,18 +23,17 @@ use Rattle.page_faults.specs.declared.Kind.TheVariants.{Mark, Setting, Reserved,
 use Rattle.page_judge.specs.Page.{read_backwards, judged}
 use Rattle.page_judge.specs.Walk.{lowest_from, lowest_word, or_else, faults_of, starts, judged-is}
 use Rattle.page_judge.specs.Exactly.{refused-not}
-use Rattle.refusals.specs.declared.Verdict.{Verdict}
-use Rattle.refusals.specs.declared.Verdict.TheVariants.{Accepted, Refused}
+use Rattle.refusals.specs.Verdicts.{Verdict, Accepted, Refused}
 
 -- ---- out of the verdict
 
 -- No verdict of four refuses, if none of them taken one after the other does.
 all-accepted : (v5 v6 v7 v8 : Verdict) → or_else v5 (or_else v6 (or_else v7 v8)) ≡ Accepted
     → (v5 ≡ Accepted) × (v6 ≡ Accepted) × (v7 ≡ Accepted) × (v8 ≡ Accepted)
-all-accepted Accepted Accepted Accepted v8 e = (refl, refl, refl, e)
-all-accepted Accepted Accepted (Refused k w) v8 e = absurd (refused-not k w e)
-all-accepted Accepted (Refused k w) v7 v8 e = absurd (refused-not k w e)
-all-accepted (Refused k w) v6 v7 v8 e = absurd (refused-not k w e)
+all-accepted (Ok x) (Ok y) (Ok z) v8 e = (refl, refl, refl, e)
+all-accepted (Ok x) (Ok y) (Err r) v8 e = absurd (refused-not r.number r.word e)
+all-accepted (Ok x) (Err r) v7 v8 e = absurd (refused-not r.number r.word e)
+all-accepted (Err r) v6 v7 v8 e = absurd (refused-not r.number r.word e)
 
 -- The four tests of the whole page, and the rest of the table.
 record Passed (t1 t2 t3 : Bool) (v : Verdict) : Type 0 where

@@ -19,7 +19,7 @@ use Rattle.page_faults.specs.Met.{level_met, order_met, on_row, kind_meets, meet
 use Rattle.page_faults.specs.declared.Layout.{Layout}
 use Rattle.page_faults.specs.declared.Kind.{Kind}
 use Rattle.page_faults.specs.declared.Kind.TheVariants.{Mark, Setting, Reserved, Trip, Release, Limit, Last, Outside}
-use Rattle.refusals.specs.declared.Verdict.TheVariants.{Accepted}
+use Rattle.refusals.specs.Verdicts.{Accepted}
 use Rattle.page_judge.specs.Page.{read_backwards, judged}
 use Rattle.page_judge.specs.Walk.{lowest_from, lowest_word, faults_of, starts, judged-is}
 

@@ -9,8 +9,7 @@ use Rattle.page_faults.specs.Kinds.{layout_of}
 use Rattle.page_faults.specs.declared.Layout.{Layout}
 use Rattle.page_judge.specs.Page.{rules_from, word_rules, refusals_of, refusals, judged}
 use Rattle.refusals.specs.Answers.{answer_of}
-use Rattle.refusals.specs.declared.Verdict.{Verdict}
-use Rattle.refusals.specs.declared.Verdict.TheVariants.{Accepted, Refused}
+use Rattle.refusals.specs.Verdicts.{Verdict, Accepted, Refused}
 
 -- The rows stand in the order of their numbers, from 1 on, and the rules of each in the order of their words, for any layout.
 words-ordered : (l : Layout) (b : List ℕ) (row i k : ℕ) → words_from i (rules_from l b row i k) ≡ true

@@ -11,8 +11,7 @@ use Rattle.page_faults.specs.Met.{level_met, order_met, on_row, kind_meets, meet
 use Rattle.page_judge.specs.Page.{refusals, judged}
 use Rattle.page_judge.specs.Walk.{lowest_word, faults_of}
 use Rattle.page_judge.specs.Worked.{worked_page, long_page, put, minus_word, Change, changed, page_with, long_with}
-use Rattle.refusals.specs.declared.Verdict.{Verdict}
-use Rattle.refusals.specs.declared.Verdict.TheVariants.{Accepted, Refused}
+use Rattle.refusals.specs.Verdicts.{Verdict, Accepted, Refused}
 
 -- A page, and the verdict on it.
 record Page : Type 0 where

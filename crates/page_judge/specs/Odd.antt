@@ -9,7 +9,7 @@ use Rattle.protections.specs.Table.{row_at, table}
 use Rattle.page_words.specs.Ranges.{word_at, within, degrees_fit, level_fits, level_of}
 use Rattle.page_faults.specs.Kinds.{kind_of}
 use Rattle.page_faults.specs.Met.{level_met, order_met, on_row, kind_meets, meets}
-use Rattle.refusals.specs.declared.Verdict.TheVariants.{Accepted}
+use Rattle.refusals.specs.Verdicts.{Accepted}
 use Rattle.page_judge.specs.Page.{refusals, judged}
 use Rattle.page_judge.specs.Worked.{put, minus_word, page_with, long_with}
 

@@ -8,8 +8,7 @@ use Rattle.page_faults.specs.Kinds.{layout_of, check_at}
 use Rattle.page_faults.specs.Met.{meets}
 use Rattle.page_faults.specs.declared.Layout.{Layout}
 use Rattle.refusals.specs.Refusals.{Rule, rule, whole, Refusal, refusal, first}
-use Rattle.refusals.specs.declared.Verdict.{Verdict}
-use Rattle.refusals.specs.declared.Verdict.TheVariants.{Accepted, Refused}
+use Rattle.refusals.specs.Verdicts.{Verdict, Accepted, Refused}
 
 -- "2, word 0 is 0xA417", and "2 also for 0xA517": word 0 is one of the two marks read backwards, whatever the length of the page is.
 abbrev pub read_backwards : ℕ → Bool

@@ -8,7 +8,7 @@ use Rattle.page_faults.specs.declared.Layout.{Layout}
 use Rattle.page_judge.specs.Page.{read_backwards, judged}
 use Rattle.page_judge.specs.Walk.{judged-is}
 use Rattle.page_judge.specs.Accepted.{accepted-length, accepted-mark}
-use Rattle.refusals.specs.declared.Verdict.TheVariants.{Accepted, Refused}
+use Rattle.refusals.specs.Verdicts.{Accepted, Refused}
 
 -- All byte pairs swapped; a last byte without a partner stays.
 abbrev pub swapped : List ℕ → List ℕ

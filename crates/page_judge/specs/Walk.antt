@@ -1,6 +1,6 @@
 -- The table as the judge walks it: for each row the lowest of the page's words that does not meet it.
 -- Assumes nothing.
-use Rattle.std.specs.Prelude.{◌≡◌, Bool, true, false, not, cond, List, [], ◌∷◌, eqb, length, get_or, take}
+use Rattle.std.specs.Prelude.{Ok, Err, ◌≡◌, Bool, true, false, not, cond, List, [], ◌∷◌, eqb, length, get_or, take}
 use Rattle.std.proofs.Math.Path.{refl, ap}
 use Rattle.std.proofs.Common.{ap₂, ◌∙◌, not-suc-le-zero, add-one}
 use Prim.Native.Nat.{ℕ, zero, suc, ◌+◌, ◌-◌, ◌<◌}
@@ -15,8 +15,7 @@ use Rattle.page_faults.specs.declared.Layout.{Layout}
 use Rattle.refusals.specs.Refusals.{Rule, first_rule, given, first-map}
 use Rattle.page_judge.specs.Page.{read_backwards, rules_from, word_rules, refusals, judged}
 use Rattle.refusals.specs.Answers.{answer_of}
-use Rattle.refusals.specs.declared.Verdict.{Verdict}
-use Rattle.refusals.specs.declared.Verdict.TheVariants.{Accepted, Refused}
+use Rattle.refusals.specs.Verdicts.{Verdict, Accepted, Refused}
 
 -- The lowest word that does not meet the row, among k words from i on.
 unfoldable pub lowest_from : Layout → ℕ → List ℕ → ℕ → ℕ → Verdict
@@ -27,8 +26,8 @@ unfoldable pub lowest_word : Layout → ℕ → List ℕ → Verdict
 lowest_word l row b = first_rule Refused row (word_rules l b row) Accepted
 
 abbrev pub or_else : Verdict → Verdict → Verdict
-or_else Accepted v = v
-or_else (Refused k w) v = Refused k w
+or_else (Ok done) v = v
+or_else (Err refusal) v = Err refusal
 
 -- Rows 5 to 8.
 unfoldable pub faults_of : Layout → List ℕ → Verdict

@@ -6,50 +6,36 @@ ghost use Rattle.std.specs.Prelude.{◌≡◌};
 ghost use Rattle.refusals.specs.Refusals.{given};
 ghost use Rattle.refusals.specs.Answers.{answer_of};
 ghost use Rattle.page_judge.specs.Page.{read_backwards, refusals, judged};
-ghost use Rattle.page_judge.specs.Walk.{or_else, lowest_word, faults_of};
+ghost use Rattle.page_judge.specs.Walk.{lowest_word, faults_of};
 
 use page_faults::{Layout, check_at, layout_of, meets};
 use page_words::word_at;
-use refusals::{Verdict, refused};
+use refusals::{Refusal, Verdict, refused};
 
 // The lowest word of the page that does not meet the row.
 fn lowest_word(page: &[u8], layout: Layout, row: u8) -> Verdict
     ensures { result ≡ lowest_word layout row page.now }
 {
-    let mut i: u16 = 0;
-    let mut left: u16 = (layout.last as u16) + 1;
-    while 0 < left {
-        let at = i as u8;
-        if meets(page, layout, row, at) {
-            i += 1;
-            left -= 1;
-        } else {
-            return Verdict::Refused {
+    for i in 0..=layout.last {
+        if !meets(page, layout, row, i) {
+            return Err(Refusal {
                 number: row,
-                word: at,
-            };
+                word: i,
+            });
         }
     }
-    Verdict::Accepted
-}
-
-fn or_else(first: Verdict, other: Verdict) -> Verdict
-    ensures { result ≡ or_else first other }
-{
-    if let Verdict::Refused { .. } = first {
-        return first;
-    }
-    other
+    Ok(())
 }
 
 // Refusals 5 to 8: the lowest number, and its lowest word.
+#[tactic(auto, unfolding(crate::specs::Walk::faults_of))]
 fn faults_of(page: &[u8], layout: Layout) -> Verdict
     ensures { result ≡ faults_of layout page.now }
 {
-    let eight = lowest_word(page, layout, 8);
-    let seven = or_else(lowest_word(page, layout, 7), eight);
-    let six = or_else(lowest_word(page, layout, 6), seven);
-    or_else(lowest_word(page, layout, 5), six)
+    lowest_word(page, layout, 5)?;
+    lowest_word(page, layout, 6)?;
+    lowest_word(page, layout, 7)?;
+    lowest_word(page, layout, 8)
 }
 
 // Whether word 0 is one of the two marks read backwards.

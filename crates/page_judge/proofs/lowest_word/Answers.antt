@@ -1,20 +1,25 @@
--- `page_judge::lowest_word` meets its contract
-use mathlib.Core.Path.{sym, ◌∙◌}
-use Rattle.page_judge.specs.Walk.{starts, goes-on, refuses, ends}
-use native.Mathlib.Numerals.{add-one}
+-- `page_judge::lowest_word` meets its contract. Assumes nothing.
+use mathlib.Core.Path.{◌≡◌, sym, ap, ◌∙◌}
+use Prim.Native.Nat.{ℕ, suc, ◌+◌, ◌-◌}
 use native.Mathlib.Omega.{arith}
+use native.Mathlib.Numerals.{unary_clauses}
+use Rattle.page_judge.specs.Walk.{lowest_from, starts, goes-on, refuses, ends}
 use Rattle.page_judge.proofs.lowest_word.Goals as goal
 
-pub loop-left-init : goal.loop-left-init
-loop-left-init c = (omega arith, rw add-one (starts _ _ _))
+pub loop-i-init : goal.loop-i-init
+loop-i-init c = simp unary_clauses (starts _ _ _)
 
-pub loop-left-preserved : goal.loop-left-preserved
-loop-left-preserved c = let l = c.loop-left in
-    (omega arith, l.invariant.1 ∙ goes-on _ _ _ l.i l.left (omega arith) (sym c.meets.ensures ∙ c.if-meets.true))
+pub returns-then-not-meets : goal.returns-then-not-meets
+returns-then-not-meets c = sym (c.loop-i.invariant ∙ refuses _ _ _ _ _ (omega arith) (sym c.meets.ensures ∙ c.if-not-meets.true))
 
-pub returns-else-meets : goal.returns-else-meets
-returns-else-meets c = let l = c.loop-left in
-    sym (l.invariant.1 ∙ refuses _ _ _ l.i l.left (omega arith) (sym c.meets.ensures ∙ c.if-meets.false))
+pub loop-i-preserved : goal.loop-i-preserved
+loop-i-preserved c =
+    let e : suc c.args.layout.last - c.loop-i.i - 1 ≡ suc c.args.layout.last - (c.loop-i.i + 1) = omega arith in
+    c.loop-i.invariant ∙ goes-on _ _ _ _ _ (omega arith) (sym c.meets.ensures ∙ c.if-not-meets.false)
+    ∙ ap (λ (k : ℕ). lowest_from c.args.layout c.args.row c.args.page.now (c.loop-i.i + 1) k) e
 
-pub returns : goal.returns
-returns c = sym (c.loop-left.invariant.1 ∙ ends _ _ _ c.loop-left.i c.loop-left.left (omega arith))
+pub returns-else-not-meets : goal.returns-else-not-meets
+returns-else-not-meets c =
+    sym
+    (c.loop-i.invariant ∙ goes-on _ _ _ _ _ (omega arith) (sym c.meets.ensures ∙ c.if-not-meets.false)
+    ∙ ends _ _ _ _ _ (omega arith))
