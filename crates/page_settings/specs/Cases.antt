@@ -14,7 +14,7 @@ use Rattle.page_faults.specs.Kinds.{kind_of}
 use Rattle.page_faults.specs.Met.{level_met, order_met, on_row, kind_meets, meets}
 use Rattle.page_judge.specs.Page.{refusals, judged}
 use Rattle.page_judge.specs.Worked.{worked_page, long_page, unlike_page, minus_word}
-use Rattle.refusals.specs.declared.Verdict.TheVariants.{Accepted, Refused}
+use Rattle.refusals.specs.Verdicts.{Accepted, Refused}
 use Rattle.page_settings.specs.declared.Rules.{Rules}
 use Rattle.page_settings.specs.declared.Settings.{Settings}
 use Rattle.page_settings.specs.Settings.{in_degrees, twice_tenths, sample_level, limits_from, limits_for, limits_of, rules_of, settings_of, no_settings, loaded_of}

@@ -1,6 +1,6 @@
 -- What the settings of an accepted page are good for: every fact that later proofs take from the page, in the units of the samples.
 -- Assumes nothing.
-use Rattle.std.specs.Prelude.{◌≡◌, refl, true, false, List, ℕ, ◌+◌, ◌<◌, ◌≤◌, length, set, replicate, ℤ, pos}
+use Rattle.std.specs.Prelude.{Ok, Err, None, ◌≡◌, refl, true, false, List, ℕ, ◌+◌, ◌<◌, ◌≤◌, length, set, replicate, ℤ, pos}
 use Rattle.std.proofs.Common.{ap, ◌∙◌, arith, lt-ltb, le-ltb}
 use Rattle.std.proofs.lemmas.List.{length-replicate}
 use Rattle.laws.specs.Tests.{by-order}
@@ -14,7 +14,6 @@ use Rattle.protections.specs.Limits.{no_limits, limits_at, GoodLimits, AllGood}
 use Rattle.protections.specs.declared.Limits.{Limits}
 use Rattle.protections.specs.declared.Direction.{Direction}
 use Rattle.protections.specs.declared.Direction.TheVariants.{Below}
-use Rattle.protections.specs.declared.Mode.TheVariants.{Silent}
 use Rattle.protections.specs.declared.Quantity.{Quantity}
 use Rattle.protections.specs.declared.Quantity.TheVariants.{HighestCell, LowestCell, Current, Temperature1, Temperature2}
 use Rattle.page_words.specs.Ranges.{word_at, level_fits, level_of}
@@ -25,8 +24,7 @@ use Rattle.page_judge.specs.Walk.{judged-answer}
 use Rattle.page_judge.specs.Accepted.{Limited, accepted-inside, accepted-limits}
 use Rattle.refusals.specs.Refusals.{given}
 use Rattle.refusals.specs.Answers.{answer_of}
-use Rattle.refusals.specs.declared.Verdict.{Verdict}
-use Rattle.refusals.specs.declared.Verdict.TheVariants.{Accepted, Refused}
+use Rattle.refusals.specs.Verdicts.{Verdict, Accepted}
 use Rattle.page_settings.specs.Degrees.{tenths-order}
 use Rattle.page_settings.specs.declared.Loaded.{Loaded}
 use Rattle.page_settings.specs.declared.Settings.{Settings}
@@ -153,7 +151,7 @@ own-good b e p h =
     words-good b p l (limits_from b p).trip (limits_from b p).release (words-order b p l)
 
 -- and so is what stands for one that it does not have: those look at temperature 1 and trip at or below.
-pub past-row : (b : List ℕ) (p : ℕ) → page_protections b ≤ p → row_at p ≡ row_with Temperature1 Below Silent
+pub past-row : (b : List ℕ) (p : ℕ) → page_protections b ≤ p → row_at p ≡ row_with Temperature1 Below None
 past-row b p h = let least = least-protections b in row-past p (omega arith)
 
 absent-good : (b : List ℕ) (p : ℕ) → page_protections b ≤ p → GoodLimits (row_at p).direction absent
@@ -190,8 +188,8 @@ accepted-good b e =
 -- ---- what a load gives
 
 with-verdict : (v : Verdict) (b : List ℕ) → (loaded_with v b).verdict ≡ v
-with-verdict Accepted b = refl
-with-verdict (Refused k w) b = refl
+with-verdict (Ok done) b = refl
+with-verdict (Err refusal) b = refl
 
 -- The verdict of a load is the judge's, with its number and word.
 pub loaded-answer : (b : List ℕ) (r : Loaded) → r ≡ loaded_of b → (r ≡ loaded_of b) × (answer_of r.verdict ≡ given (refusals b))

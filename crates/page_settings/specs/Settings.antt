@@ -1,6 +1,6 @@
 -- What an accepted settings page says, in the units of the samples.
 -- Assumes nothing.
-use Rattle.std.specs.Prelude.{Bool, true, false, cond, List, ℕ, ◌+◌, ltb, length, replicate, ℤ, pos, negsuc, ◌+ℤ◌, ◌*ℤ◌}
+use Rattle.std.specs.Prelude.{Ok, Err, Bool, true, false, cond, List, ℕ, ◌+◌, ltb, length, replicate, ℤ, pos, negsuc, ◌+ℤ◌, ◌*ℤ◌}
 use Rattle.laws.specs.Numbered.{list_of}
 use Rattle.units.specs.Levels.{level}
 use Rattle.units.specs.Signed.{signed_of}
@@ -15,8 +15,7 @@ use Rattle.protections.specs.declared.Quantity.TheVariants.{HighestCell, LowestC
 use Rattle.page_words.specs.Ranges.{word_at, level_of}
 use Rattle.page_faults.specs.Kinds.{layout_of, trip_word}
 use Rattle.page_judge.specs.Page.{judged}
-use Rattle.refusals.specs.declared.Verdict.{Verdict}
-use Rattle.refusals.specs.declared.Verdict.TheVariants.{Accepted, Refused}
+use Rattle.refusals.specs.Verdicts.{Verdict}
 use Rattle.page_settings.specs.declared.Rules.{Rules}
 use Rattle.page_settings.specs.declared.Settings.{Settings}
 use Rattle.page_settings.specs.declared.Loaded.{Loaded}
@@ -107,8 +106,8 @@ unfoldable pub no_settings : Settings
 no_settings = record { rules = no_rules; limits = replicate protections no_limits }
 
 abbrev pub loaded_with : Verdict → List ℕ → Loaded
-loaded_with Accepted b = record { verdict = Accepted; settings = settings_of b }
-loaded_with (Refused k w) b = record { verdict = Refused k w; settings = no_settings }
+loaded_with (Ok done) b = record { verdict = Ok done; settings = settings_of b }
+loaded_with (Err refusal) b = record { verdict = Err refusal; settings = no_settings }
 
 -- What a load of the bytes b gives.
 unfoldable pub loaded_of : List ℕ → Loaded

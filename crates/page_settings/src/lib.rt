@@ -9,7 +9,7 @@ ghost use Rattle.page_words.specs.Ranges.{word_at};
 ghost use Rattle.page_judge.specs.Page.{judged, refusals};
 ghost use Rattle.refusals.specs.Refusals.{given};
 ghost use Rattle.refusals.specs.Answers.{answer_of};
-ghost use Rattle.refusals.specs.declared.Verdict.TheVariants.{Accepted};
+ghost use Rattle.refusals.specs.Verdicts.{Accepted};
 ghost use Rattle.page_settings.specs.Settings.{in_degrees, sample_level, limits_from, page_protections, absent, limits_for, limits_of, rules_of, settings_of, no_settings, loaded_of};
 
 use page_faults::{layout_of, trip_word};
@@ -41,6 +41,7 @@ pub struct Settings {
 }
 
 // A page's verdict, and what it says if it is accepted.
+// Kept (promise): `load` gives settings of a refused page too (`loaded_of`, `no_settings`), so this is no Result.
 #[derive(Clone, Copy)]
 pub struct Loaded {
     pub verdict: Verdict,
@@ -112,11 +113,11 @@ fn limits_from(page: &[u8], p: ProtectionNo) -> Limits
     let m = small(page, at + 3);
     let mask = small(page, at + 4);
     Limits {
-        trip: trip,
-        release: release,
-        n: n,
-        m: m,
-        mask: mask,
+        trip,
+        release,
+        n,
+        m,
+        mask,
     }
 }
 
@@ -127,8 +128,8 @@ fn absent_limits() -> Limits
     let trip = Level(-1);
     let release = Level(0);
     Limits {
-        trip: trip,
-        release: release,
+        trip,
+        release,
         n: 1,
         m: 1,
         mask: 0,
@@ -187,14 +188,14 @@ fn rules_of(page: &[u8]) -> Rules
     let voltage = MilliVolts(word_at(page, 7));
     let current = signed_of(word_at(page, 8));
     Rules {
-        n: n,
-        k: k,
-        r: r,
-        floor: floor,
-        difference: difference,
-        detection: detection,
-        voltage: voltage,
-        current: current,
+        n,
+        k,
+        r,
+        floor,
+        difference,
+        detection,
+        voltage,
+        current,
     }
 }
 
@@ -205,10 +206,7 @@ fn settings_of(page: &[u8]) -> Settings
 {
     let rules = rules_of(page);
     let limits = limits_of(page);
-    Settings {
-        rules: rules,
-        limits: limits,
-    }
+    Settings { rules, limits }
 }
 
 // The settings that go with a refused page: 0 throughout.
@@ -227,10 +225,7 @@ fn no_settings() -> Settings
         voltage: MilliVolts(0),
         current: 0,
     };
-    Settings {
-        rules: rules,
-        limits: limits,
-    }
+    Settings { rules, limits }
 }
 
 // Judges a page of any length, and reads its settings if it is accepted. The verdict has the number and word of the refusal table.
@@ -239,19 +234,13 @@ pub fn load(page: &[u8]) -> Loaded
 {
     let verdict = page_judge::judge(page);
     match verdict {
-        Verdict::Accepted => {
+        Ok(()) => {
             let settings = settings_of(page);
-            Loaded {
-                verdict: verdict,
-                settings: settings,
-            }
+            Loaded { verdict, settings }
         }
-        Verdict::Refused { .. } => {
+        Err(_) => {
             let settings = no_settings();
-            Loaded {
-                verdict: verdict,
-                settings: settings,
-            }
+            Loaded { verdict, settings }
         }
     }
 }
