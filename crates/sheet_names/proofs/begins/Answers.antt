@@ -1,15 +1,7 @@
 -- `sheet_names::begins` meets its contract. Assumes nothing.
-use mathlib.Core.Path.{refl, ◌∙◌}
-use Rattle.laws.specs.Numbered.{list_from}
-use Rattle.text_fields.specs.Decimal.{decimal}
-use Rattle.protections.specs.Table.{table}
-use Rattle.sheet_names.specs.Names.{name_at, prefix_at}
-use Rattle.sheet_names.specs.Prefixes.{prefixes}
+use Rattle.std.proofs.Common.{rules}
+use Rattle.sheet_names.specs.Begins.{begins-from}
 use Rattle.sheet_names.proofs.begins.Goals as goal
 
-pub prefix-p-requires : goal.prefix-p-requires
-unfolding prefixes prefix_at name_at list_from decimal table
-prefix-p-requires c = refl
-
 pub returns : goal.returns
-returns c = c.begins_at.ensures ∙ rw c.prefix-p.ensures
+returns c = begins-from _ _ (search rules) c.min.ensures c.prefix-p.ensures
