@@ -1,4 +1,5 @@
 -- Minus a number up to 32768, as the difference of -1 and one less, which fits 16 bits.
+use Rattle.std.specs.Prelude.{Some}
 use Prim.Native.Nat.{ℕ, zero, suc, ◌+◌, ◌-◌, ◌≤◌}
 use mathlib.Core.Path.{◌≡◌, refl, ap, ◌∙◌}
 use native.Mathlib.Omega.{arith}
@@ -7,8 +8,6 @@ use mir.Syntax.{w16}
 use mir.Val.{SFits, to_z, of_z}
 use mir.Facts.{to_z-of_z, to_z_pos}
 use Rattle.text_numbers.specs.Numbers.{negative, below_of}
-use Rattle.text_numbers.specs.declared.Number.TheVariants.{Value}
-use Rattle.text_numbers.specs.declared.Signed.TheVariants as signed
 
 minus-one : (u : ℕ) → negsuc 0 -ℤ pos u ≡ negsuc u
 minus-one zero = refl
@@ -29,6 +28,6 @@ module _ (v : ℕ) (l : 1 ≤ v) (h : v ≤ 32768) where
   fall-is = to_z-of_z fall-fits ∙ fall ∙ less-one v l
 
 -- a number behind a minus that is not 0
-pub below-some : (v : ℕ) → 1 ≤ v → below_of (Value v) ≡ signed.Value (negative v)
+pub below-some : (v : ℕ) → 1 ≤ v → below_of (Some v) ≡ Some (negative v)
 below-some zero l = absurd (omega arith)
 below-some (suc v) l = refl

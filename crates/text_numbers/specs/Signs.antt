@@ -1,6 +1,6 @@
 -- A number that may have a minus, read in two steps: where its digits start, and then its sign.
 use Prim.Native.Nat.{ℕ, suc, ◌+◌, ◌≤◌}
-use Rattle.std.specs.Prelude.{◌≡◌, refl, Bool, true, false, cond, ◌&&◌, List, [], ◌∷◌, ltb, eqb, length, drop, get_or}
+use Rattle.std.specs.Prelude.{◌≡◌, refl, Bool, true, false, cond, ◌&&◌, List, [], ◌∷◌, ltb, eqb, length, drop, get_or, Option, Some, None, ℤ}
 use Rattle.std.proofs.Common.{sym, ◌∙◌, drop_of_length-le, drop-cons}
 use Rattle.std.proofs.Math.Path.{ap}
 use native.Mathlib.Omega.{arith}
@@ -10,23 +10,19 @@ use Rattle.text_fields.specs.Finding.{before}
 use Rattle.text_fields.specs.Fields.{field_at}
 use Rattle.text_numbers.specs.Numbers.{number_to, read_number, above_of, below_of, read_signed}
 use Rattle.text_numbers.specs.Canonical.{number-text, number-read, number-malformed, decimal-one}
-use Rattle.text_numbers.specs.declared.Number.{Number}
-use Rattle.text_numbers.specs.declared.Number.TheVariants.{Value, Malformed}
-use Rattle.text_numbers.specs.declared.Signed.{Signed}
-use Rattle.text_numbers.specs.declared.Signed.TheVariants as signed
 
 -- a number up to most
-abbrev pub up_to : ℕ → ℕ → Number
-up_to most v = cond (ltb most v) Malformed (Value v)
+abbrev pub up_to : ℕ → ℕ → Option ℕ
+up_to most v = cond (ltb most v) None (Some v)
 
 -- a number with its sign: -32768..32767, and no -0
-unfoldable pub with_sign : Bool → ℕ → Signed
+unfoldable pub with_sign : Bool → ℕ → Option ℤ
 with_sign below v = cond below (below_of (up_to 32768 v)) (above_of (up_to 32767 v))
 
 -- the same of a field that may be none
-abbrev pub signed_number : Bool → Number → Signed
-signed_number below (Value v) = with_sign below v
-signed_number below Malformed = signed.Malformed
+abbrev pub signed_number : Bool → Option ℕ → Option ℤ
+signed_number below (Some v) = with_sign below v
+signed_number below None = None
 
 -- whether a minus stands at a place
 abbrev pub has_minus : List ℕ → ℕ → Bool
@@ -38,39 +34,39 @@ past_minus line from = cond (has_minus line from) (from + 1) from
 
 -- ---- a smaller range reads what is in it
 
-cut : ℕ → Number → Number
-cut most (Value v) = up_to most v
-cut most Malformed = Malformed
+cut : ℕ → Option ℕ → Option ℕ
+cut most (Some v) = up_to most v
+cut most None = None
 
-cut-is : (most : ℕ) → most ≤ 65535 → (f : List ℕ) (n : Number) → read_number f ≡ n → number_to most f ≡ cut most n
+cut-is : (most : ℕ) → most ≤ 65535 → (f : List ℕ) (n : Option ℕ) → read_number f ≡ n → number_to most f ≡ cut most n
 unfolding cut
-cut-is most m f (Value v) e =
+cut-is most m f (Some v) e =
     let t = number-text 65535 f v e in
     by-order most v
     (λ h. rw (lt-ltb most v h) (number-malformed most f (λ w l q. let k = decimal-one w v (sym q ∙ t.0) in omega arith)))
     (λ h. rw (le-ltb most v h) (ap (number_to most) t.0 ∙ number-read most v h))
-cut-is most m f Malformed e =
+cut-is most m f None e =
     number-malformed most f (λ w l q. clash refl (ap is_value (sym (number-read 65535 w (omega arith)) ∙ ap read_number (sym q) ∙ e)))
   where
-    is_value : Number → Bool
-    is_value (Value v) = true
-    is_value Malformed = false
+    is_value : Option ℕ → Bool
+    is_value (Some v) = true
+    is_value None = false
 
 signed-above : (f : List ℕ) → above_of (number_to 32767 f) ≡ signed_number false (read_number f)
 unfolding cut with_sign
 signed-above f = ap above_of (cut-is 32767 (omega arith) f (read_number f) refl) ∙ above (read_number f)
   where
-    above : (n : Number) → above_of (cut 32767 n) ≡ signed_number false n
-    above (Value v) = refl
-    above Malformed = refl
+    above : (n : Option ℕ) → above_of (cut 32767 n) ≡ signed_number false n
+    above (Some v) = refl
+    above None = refl
 
 signed-below : (f : List ℕ) → below_of (number_to 32768 f) ≡ signed_number true (read_number f)
 unfolding cut with_sign
 signed-below f = ap below_of (cut-is 32768 (omega arith) f (read_number f) refl) ∙ below (read_number f)
   where
-    below : (n : Number) → below_of (cut 32768 n) ≡ signed_number true n
-    below (Value v) = refl
-    below Malformed = refl
+    below : (n : Option ℕ) → below_of (cut 32768 n) ≡ signed_number true n
+    below (Some v) = refl
+    below None = refl
 
 no-minus : (b : ℕ) (bs : List ℕ) → eqb b 45 ≡ false → read_signed (before 9 (b ∷ bs)) ≡ above_of (number_to 32767 (before 9 (b ∷ bs)))
 unfolding read_signed before number_to

@@ -6,66 +6,42 @@ ghost use Rattle.std.specs.Prelude.{◌≡◌, ◌-◌, ◌≤◌, length};
 ghost use Rattle.text_numbers.specs.Numbers.{digits_to, number_to, read_number, negative};
 ghost use Rattle.text_numbers.specs.Signs.{with_sign, past_minus};
 
-use laws::wide;
-
-// A field as a number.
-#[derive(Clone, Copy)]
-pub enum Number {
-    Value(u16),
-    Malformed,
-}
-
-// A field as a number that may have a minus.
-#[derive(Clone, Copy)]
-pub enum Signed {
-    Value(i16),
-    Malformed,
-}
-
 // The digits of a field as a number up to `most`; the test behind each digit keeps it from wrapping.
-fn digits(field: &[u8], most: u16) -> Number
+fn digits(field: &[u8], most: u32) -> Option<u32>
     ensures { result ≡ digits_to most 0 field.now }
 {
-    let mut v: u32 = 0;
-    let mut i = 0;
-    while i < field.len() {
-        let b = field[i];
-        if b < b'0' {
-            return Number::Malformed;
+    let mut v: u64 = 0;
+    for b in field {
+        if !b.is_ascii_digit() {
+            return None;
         }
-        if b'9' < b {
-            return Number::Malformed;
+        v = v * 10 + u64::from(*b - b'0');
+        if u64::from(most) < v {
+            return None;
         }
-        v = v * 10 + wide(b - b'0');
-        if (most as u32) < v {
-            return Number::Malformed;
-        }
-        i += 1;
     }
-    Number::Value(v as u16)
+    Some(v as u32)
 }
 
 // A field as a number up to `most`, without leading zeros.
-fn number_to(field: &[u8], most: u16) -> Number
+pub fn number_to(field: &[u8], most: u32) -> Option<u32>
     ensures { result ≡ number_to most field.now }
 {
-    if field.len() == 0 {
-        return Number::Malformed;
+    if field.is_empty() {
+        return None;
     }
-    if field.len() == 1 {
-        return digits(field, most);
-    }
-    if field[0] == b'0' {
-        return Number::Malformed;
+    if 1 < field.len() && field[0] == b'0' {
+        return None;
     }
     digits(field, most)
 }
 
 // A field as a number 0..65535.
-pub fn read_number(field: &[u8]) -> Number
+pub fn read_number(field: &[u8]) -> Option<u16>
     ensures { result ≡ read_number field.now }
 {
-    number_to(field, 65535)
+    let v = number_to(field, 65535)?;
+    Some(v as u16)
 }
 
 // Minus `v`, for `v` from 1 to 32768: -32768 is made without ever being negated.
@@ -77,22 +53,22 @@ fn negative(v: u16) -> i16
 }
 
 // A number with its sign, -32768..32767; there is no -0.
-pub fn with_sign(below: bool, v: u16) -> Signed
+pub fn with_sign(below: bool, v: u16) -> Option<i16>
     ensures { result ≡ with_sign below v }
 {
     if below {
         if v == 0 {
-            return Signed::Malformed;
+            return None;
         }
         if 32768 < v {
-            return Signed::Malformed;
+            return None;
         }
-        return Signed::Value(negative(v));
+        return Some(negative(v));
     }
     if 32767 < v {
-        return Signed::Malformed;
+        return None;
     }
-    Signed::Value(v as i16)
+    Some(v as i16)
 }
 
 // Where the digits start of a field that starts at `from`: behind its minus, if it has one.

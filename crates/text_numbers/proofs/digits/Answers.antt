@@ -1,24 +1,22 @@
 -- `digits` meets its contract
-use mathlib.Core.Path.{refl, sym, ◌∙◌}
+use mathlib.Core.Path.{sym, ◌∙◌}
 use native.Mathlib.Omega.{arith}
-use Rattle.text_numbers.proofs.Reading.{low, high, large, turn, over}
+use Rattle.text_numbers.proofs.Reading.{off, large, turn, over}
 use Rattle.text_numbers.proofs.digits.Goals as goal
 
-pub loop-i-init : goal.loop-i-init
-loop-i-init c = (omega arith, omega arith, refl)
+pub returns-then-not-is_ascii_digit : goal.returns-then-not-is_ascii_digit
+returns-then-not-is_ascii_digit c = let l = c.loop-b in
+    sym (off _ _ l.v l.b-index (omega arith) c.if-not-is_ascii_digit.ensures.cases) ∙ l.invariant.1
 
-pub returns-then-b-lt48 : goal.returns-then-b-lt48
-returns-then-b-lt48 c = let l = c.loop-i in sym (low _ _ l.v l.i (omega arith) c.if-b-lt48.true) ∙ l.invariant.2
+pub returns-then-from-v : goal.returns-then-from-v
+returns-then-from-v c = let l = c.loop-b in
+    let d = c.if-not-is_ascii_digit.ensures.cases in
+    sym (large _ _ l.v l.b-index (omega arith) d.0 d.1 (omega arith)) ∙ l.invariant.1
 
-pub returns-then-b-gt57 : goal.returns-then-b-gt57
-returns-then-b-gt57 c = let l = c.loop-i in sym (high _ _ l.v l.i (omega arith) (omega arith) c.if-b-gt57.true) ∙ l.invariant.2
-
-pub returns-then-most-v : goal.returns-then-most-v
-returns-then-most-v c = let l = c.loop-i in sym (large _ _ l.v l.i (omega arith) (omega arith) (omega arith) (omega arith)) ∙ l.invariant.2
-
-pub loop-i-preserved : goal.loop-i-preserved
-loop-i-preserved c = let l = c.loop-i in
-    (omega arith, omega arith, rw c.wide.ensures.0 (turn _ _ l.v l.i (omega arith) (omega arith) (omega arith) (omega arith)) ∙ l.invariant.2)
+pub loop-b-preserved : goal.loop-b-preserved
+loop-b-preserved c = let l = c.loop-b in
+    let d = c.if-not-is_ascii_digit.ensures.cases in
+    (omega arith, rw c.from.ensures (turn _ _ l.v l.b-index (omega arith) d.0 d.1 (omega arith)) ∙ l.invariant.1)
 
 pub returns : goal.returns
-returns c = let l = c.loop-i in sym (over _ _ l.v l.i (omega arith)) ∙ l.invariant.2
+returns c = let l = c.loop-b in sym (over _ _ l.v l.b-index (omega arith)) ∙ l.invariant.1
