@@ -1,14 +1,13 @@
 -- Worked cases, computed: what a reader can check by eye.
-use Rattle.std.specs.Prelude.{ℕ, suc, ◌≡◌, refl, Bool, true, false, List, [], ◌∷◌, ◌++◌, length, replicate}
+use Rattle.std.specs.Prelude.{None, ℕ, suc, ◌≡◌, refl, Bool, true, false, List, [], ◌∷◌, ◌++◌, length, replicate}
 use Rattle.text_fields.specs.Finding.{before, lacks}
-use Rattle.log_lines.specs.Lines.{lines_of, plain, next_line}
+use Rattle.log_lines.specs.Lines.{Ends, lines_of, plain, next_line}
 use Rattle.log_lines.specs.Carrying.{carried, move_down}
 use Rattle.log_lines.specs.Walking.{whole}
 use Rattle.log_lines.specs.Folded.{behind_lines, behind_log}
 use Rattle.log_lines.specs.Run.{closing, Round, read_in, written_in, state_behind, held_behind, done_behind}
 use Rattle.log_lines.specs.Output.{output, answers, written, with_answer}
 use Rattle.log_lines.specs.Chunk.{answer_lines, reached}
-use Rattle.log_lines.specs.declared.NextLine.TheVariants.{Ends, Unfinished}
 
 -- an empty log has no line, one newline is one empty line
 pub few : (lines_of [] ≡ []) × (lines_of (10 ∷ []) ≡ [] ∷ [])
@@ -22,12 +21,12 @@ unfolding lines_of
 last = (refl, refl, refl)
 
 -- of "A", newline, "B": the line from 0 on, the line from 2 on, and past the end
-pub next : (next_line (65 ∷ 10 ∷ 66 ∷ []) 0 ≡ Ends 1 2) × (next_line (65 ∷ 10 ∷ 66 ∷ []) 2 ≡ Unfinished) × (next_line (65 ∷ 10 ∷ 66 ∷ []) 9 ≡ Unfinished)
+pub next : (next_line (65 ∷ 10 ∷ 66 ∷ []) 0 ≡ Ends 1 2) × (next_line (65 ∷ 10 ∷ 66 ∷ []) 2 ≡ None) × (next_line (65 ∷ 10 ∷ 66 ∷ []) 9 ≡ None)
 unfolding next_line before
 next = (refl, refl, refl)
 
 -- however long it is, a line ends at its newline
-pub long : (next_line (replicate 129 65) 0 ≡ Unfinished) × (next_line (replicate 129 65 ++ (10 ∷ [])) 0 ≡ Ends 129 130)
+pub long : (next_line (replicate 129 65) 0 ≡ None) × (next_line (replicate 129 65 ++ (10 ∷ [])) 0 ≡ Ends 129 130)
 unfolding next_line before
 long = (refl, refl)
 

@@ -1,5 +1,5 @@
 -- The lines of a log, found one after the other.
-use Rattle.std.specs.Prelude.{ℕ, zero, suc, ◌+◌, ◌-◌, ◌<◌, ◌≤◌, ◌≡◌, refl, true, false, cond, List, [], ◌∷◌, ◌++◌, eqb, ltb, length, take, drop}
+use Rattle.std.specs.Prelude.{None, ℕ, zero, suc, ◌+◌, ◌-◌, ◌<◌, ◌≤◌, ◌≡◌, refl, true, false, cond, List, [], ◌∷◌, ◌++◌, eqb, ltb, length, take, drop}
 use Rattle.std.proofs.Math.Path.{sym}
 use Rattle.std.proofs.Common.{ap, ◌∙◌, append-nil, length-drop, drop-drop}
 use native.Mathlib.Omega.{arith}
@@ -7,8 +7,8 @@ use borrow.Author.Tests.{lt-ltb, le-ltb, ltb-true, ltb-false}
 use Rattle.laws.specs.Tests.{by-test}
 use Rattle.text_fields.specs.Finding.{before, lacks, lacks-head, before-front, before-lacks, before-splits, before-all}
 use Rattle.text_fields.specs.Fields.{longer}
-use Rattle.log_lines.specs.Lines.{lines_of, plain, end_of, next_line}
-use Rattle.log_lines.specs.declared.NextLine.TheVariants.{Ends, Unfinished}
+use Rattle.log_lines.specs.declared.NextLine.{NextLine}
+use Rattle.log_lines.specs.Lines.{Ends, lines_of, plain, end_of, next_line}
 
 -- ---- bytes without a newline in front of the rest
 
@@ -92,7 +92,7 @@ pub record Ended (text : List ℕ) (from end next : ℕ) : Type 0 where
   pub start : from ≤ end
   pub inside : end < length text
 
-no-ends : (end next : ℕ) → Unfinished ≡ Ends end next → ⊥
+no-ends : (end next : ℕ) → None ≡ Ends end next → ⊥
 no-ends end next q = let z : ◌≡◌ {A = ℕ} 0 1 = cc in omega arith
 
 module _ (text : List ℕ) (from : ℕ) where
@@ -113,13 +113,14 @@ module _ (text : List ℕ) (from : ℕ) where
       let h = ltb-true (end_of left) (length left) t in
       let k = left-length in
       let q : Ends (from + end_of left) (from + end_of left + 1) ≡ Ends end next = rw t at e in
-      let a : from + end_of left ≡ end = cc in
-      let b : from + end_of left + 1 ≡ next = cc in
+      let r : ◌≡◌ {A = NextLine} (record { end = from + end_of left; next = from + end_of left + 1 }) (record { end = end; next = next }) = cc in
+      let a : from + end_of left ≡ end = ap (λ (l : NextLine). l.end) r in
+      let b : from + end_of left + 1 ≡ next = ap (λ (l : NextLine). l.next) r in
       record { is = sym a; after = omega arith; start = omega arith; inside = omega arith })
       (λ t. absurd (no-ends end next (rw t at e)))
 
   -- no newline is left
-  pub next-unfinished : next_line text from ≡ Unfinished → plain left ≡ true
+  pub next-unfinished : next_line text from ≡ None → plain left ≡ true
   unfolding next_line
   next-unfinished e =
       by-test (ltb (end_of left) (length left))
@@ -133,7 +134,7 @@ module _ (text : List ℕ) (from : ℕ) where
     next-found l =
         let k = left-length in rw (lt-ltb (end_of left) (length left) (omega arith), h)
 
-    pub next-not-found : length text ≤ e → Unfinished ≡ next_line text from
+    pub next-not-found : length text ≤ e → None ≡ next_line text from
     unfolding next_line
     next-not-found l = let k = left-length in rw (le-ltb (end_of left) (length left) (omega arith))
 

@@ -6,28 +6,22 @@ ghost use Rattle.std.specs.Prelude.{◌≡◌, ◌≤◌};
 ghost use Rattle.log_lines.specs.Lines.{next_line};
 ghost use Rattle.log_lines.specs.Carrying.{carried, move_down};
 
-// The next line of a buffer.
-#[derive(Clone, Copy)]
-pub enum NextLine {
-    // Its newline stands at `end`, and the line behind it starts at `next`.
-    Ends { end: usize, next: usize },
-    // No newline is left.
-    Unfinished,
+// The next line of a buffer: its newline stands at `end`, and the line behind it starts at `next`.
+#[derive(Clone, Copy, Debug, PartialEq, Eq)]
+pub struct NextLine {
+    pub end: usize,
+    pub next: usize,
 }
 
-// The next line of the bytes from `from` on: the part up to `end`, without its newline.
-pub fn next_line(bytes: &[u8], from: usize) -> NextLine
+// The next line of the bytes from `from` on: the part up to `end`, without its newline; none where no newline is left.
+pub fn next_line(bytes: &[u8], from: usize) -> Option<NextLine>
     ensures { result ≡ next_line bytes.now from }
 {
-    let n = bytes.len();
-    let e = text_fields::find(bytes, from, b'\n');
-    if e < n {
-        return NextLine::Ends {
-            end: e,
-            next: e + 1,
-        };
+    let end = text_fields::find(bytes, from, b'\n');
+    if end < bytes.len() {
+        return Some(NextLine { end, next: end + 1 });
     }
-    NextLine::Unfinished
+    None
 }
 
 // How many of the bytes that are left are carried on to the next read: all while lines wait in them; where no newline is left (`done`),
@@ -55,9 +49,7 @@ pub fn move_down(buf: &mut [u8], from: usize, count: usize)
     if n - count < from {
         return;
     }
-    let mut i = 0;
-    while i < count {
+    for i in 0..count {
         buf[i] = buf[from + i];
-        i += 1;
     }
 }

@@ -11,21 +11,21 @@ pub returns-then-n-count-2 : goal.returns-then-n-count-2
 returns-then-n-count-2 c = let a = c.args in moved-not a.buf.now a.from a.count (omega arith)
 
 pub loop-i-init : goal.loop-i-init
-loop-i-init c = (omega arith, omega arith, moved-start _ _)
+loop-i-init c = (omega arith, moved-start _ _)
 
 pub bounds-buf-from : goal.bounds-buf-from
-bounds-buf-from c = let s = c.loop-i.invariant.2.same in omega arith
+bounds-buf-from c = let s = c.loop-i.invariant.1.same in omega arith
 
 pub bounds-buf-i : goal.bounds-buf-i
-bounds-buf-i c = let s = c.loop-i.invariant.2.same in omega arith
+bounds-buf-i c = let s = c.loop-i.invariant.1.same in omega arith
 
 pub loop-i-preserved : goal.loop-i-preserved
-loop-i-preserved c = (omega arith, omega arith, moved-on _ _ _ _ (omega arith) c.loop-i.invariant.2)
+loop-i-preserved c = (omega arith, moved-on _ _ _ _ (omega arith) c.loop-i.invariant.1)
 
 pub shape_of-buf : goal.shape_of-buf
-shape_of-buf c = c.loop-i.invariant.2.same
+shape_of-buf c = c.loop-i.invariant.1.same
 
 pub returns : goal.returns
 returns c = let a = c.args in
     let e : c.loop-i.i ≡ a.count = omega arith in
-    moved-end a.buf.now a.from a.count _ c.loop-i.invariant.0 (rw e at c.loop-i.invariant.2)
+    moved-end a.buf.now a.from a.count _ c.loop-i.invariant.0 (rw e at c.loop-i.invariant.1)
