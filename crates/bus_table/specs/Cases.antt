@@ -1,8 +1,7 @@
 -- Computed cases: document 01's table of commands, read back row by row.
 -- Assumes nothing.
 use Rattle.std.specs.Prelude.{◌≡◌, refl, List, [], ◌∷◌, map}
-use Rattle.bus_table.specs.declared.Sends.{Sends}
-use Rattle.bus_table.specs.declared.Sends.TheVariants.{Nothing, Cell, Whole}
+use Rattle.bus_table.specs.Sends.{Sends, Nothing, Cell, Whole}
 use Rattle.bus_table.specs.declared.PackWord.TheVariants.{Temperature1, Temperature2, Sum, Current, ChargingCurrent, ChargingVoltage, Status, Mode, Raised, Bled, Outermost}
 use Rattle.bus_table.specs.Table.{table, row_of_command}
 
