@@ -5,7 +5,7 @@ use Rattle.std.proofs.Math.Path.{ap}
 use Rattle.std.proofs.Common.{◌∙◌}
 use Rattle.refusals.specs.Answers.{answer_of}
 use Rattle.refusals.specs.Refusals.{given}
-use Rattle.refusals.specs.declared.Verdict.{Verdict}
+use Rattle.refusals.specs.Verdicts.{Verdict}
 use Rattle.sample.specs.Cells.{extremes_of}
 use Rattle.sample.specs.declared.Extremes.{Extremes}
 use Rattle.sample.specs.declared.Sample.{Sample}

@@ -9,8 +9,7 @@ use Rattle.laws.specs.Tests.{by-test}
 use Rattle.units.specs.declared.MilliVolts.{MilliVolts}
 use Rattle.refusals.specs.Answers.{answer_of}
 use Rattle.refusals.specs.Refusals.{given, first-map}
-use Rattle.refusals.specs.declared.Verdict.{Verdict}
-use Rattle.refusals.specs.declared.Verdict.TheVariants.{Accepted, Refused}
+use Rattle.refusals.specs.Verdicts.{Verdict, Accepted, Refused}
 use Rattle.units.specs.Cells.{ten_at_most}
 use Rattle.sample.specs.Cells.{no_volts, found_at, larger, best_of, highest, extremes_of}
 use Rattle.sample.specs.declared.Extremes.{Extremes}

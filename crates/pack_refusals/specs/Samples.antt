@@ -6,8 +6,7 @@ use Rattle.units.specs.declared.MilliVolts.{MilliVolts}
 use Rattle.laws.specs.Each.{each_to}
 use Rattle.page_words.specs.Ranges.{within}
 use Rattle.refusals.specs.Refusals.{Refusal, refusal, whole, first}
-use Rattle.refusals.specs.declared.Verdict.{Verdict}
-use Rattle.refusals.specs.declared.Verdict.TheVariants.{Accepted, Refused}
+use Rattle.refusals.specs.Verdicts.{Verdict, Accepted, Refused}
 use Rattle.units.specs.Cells.{ten_at_most}
 use Rattle.sample.specs.Cells.{no_volts}
 use Rattle.sample.specs.declared.Sample.{Sample}

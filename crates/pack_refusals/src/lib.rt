@@ -16,20 +16,15 @@ use units::{DeciKelvin, MilliVolts};
 fn temperature_fits(t: DeciKelvin) -> bool
     ensures { result ≡ temperature_fits t.0 }
 {
-    if 2000 <= t.0 {
-        return t.0 <= 4500;
-    }
-    false
+    2000 <= t.0 && t.0 <= 4500
 }
 
+#[tactic(auto, unfolding(crate::specs::Samples::temperatures_verdict))]
 fn temperatures_verdict(t1: DeciKelvin, t2: DeciKelvin) -> Verdict
     ensures { result ≡ temperatures_verdict t1.0 t2.0 }
 {
-    if temperature_fits(t1) {
-        if temperature_fits(t2) {
-            return Verdict::Accepted;
-        }
-        return refused(11);
+    if temperature_fits(t1) && temperature_fits(t2) {
+        return Ok(());
     }
     refused(11)
 }
@@ -43,8 +38,7 @@ pub fn sample_verdict(n: u8, s: Sample, e: Extremes) -> Verdict
     if n == 0 {
         return refused(9);
     }
-    let count = s.count;
-    if count != n {
+    if s.count != n {
         return refused(9);
     }
     if e.highest.volts.0 <= 6000 {
@@ -58,7 +52,7 @@ pub fn command_verdict(c: u16) -> Verdict
     ensures { (result ≡ command_verdict c) × (answer_of result ≡ given (command_refusals c)) }
 {
     if c <= 3 {
-        return Verdict::Accepted;
+        return Ok(());
     }
     refused(16)
 }
@@ -75,18 +69,12 @@ fn kept_cell(count: u8, i: u8, v: MilliVolts) -> MilliVolts
 }
 
 // The sample with 0 in the entries past its count.
-pub fn trim(s: Sample) -> Sample
+pub fn trim(mut s: Sample) -> Sample
     ensures { result ≡ trimmed s }
 {
-    let mut cells = s.cells;
-    let mut i: u8 = 0;
-    while i < 10 {
-        let at = i as usize;
-        let v = cells[at];
-        cells[at] = kept_cell(s.count, i, v);
-        i += 1;
+    for i in 0..10 {
+        let at = usize::from(i);
+        s.cells[at] = kept_cell(s.count, i, s.cells[at]);
     }
-    let mut t = s;
-    t.cells = cells;
-    t
+    s
 }

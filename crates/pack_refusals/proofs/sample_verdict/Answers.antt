@@ -8,14 +8,14 @@ use Rattle.pack_refusals.proofs.sample_verdict.Goals as goal
 pub returns-then-n-eq0 : goal.returns-then-n-eq0
 returns-then-n-eq0 c = let both = by-answer _ _ _ _ (c.refused.ensures ∙ sym (by-none _ _ _ c.if-n-eq0.true)) in record { value = both.0; value_2 = both.1 }
 
-pub returns-then-count-n : goal.returns-then-count-n
-returns-then-count-n c = let both = by-answer _ _ _ _ (c.refused-then-count-n.ensures ∙ sym (by-count _ _ _ (omega arith) c.if-count-n.true)) in record { value = both.0; value_2 = both.1 }
+pub returns-then-s-n : goal.returns-then-s-n
+returns-then-s-n c = let both = by-answer _ _ _ _ (c.refused-then-s-n.ensures ∙ sym (by-count _ _ _ (omega arith) c.if-s-n.true)) in record { value = both.0; value_2 = both.1 }
 
 pub returns-then-e-le6000 : goal.returns-then-e-le6000
 returns-then-e-le6000 c = let both = by-answer _ _ _ _
     (c.temperatures_verdict.ensures
-    ∙ sym (by-last _ _ _ (omega arith) c.if-count-n.false c.if-e-le6000.true)) in record { value = both.0; value_2 = both.1 }
+    ∙ sym (by-last _ _ _ (omega arith) c.if-s-n.false c.if-e-le6000.true)) in record { value = both.0; value_2 = both.1 }
 
 pub returns : goal.returns
 returns c = let both = by-answer _ _ _ _
-    (c.refused-2.ensures ∙ sym (by-cells _ _ _ (omega arith) c.if-count-n.false c.if-e-le6000.false)) in record { value = both.0; value_2 = both.1 }
+    (c.refused-2.ensures ∙ sym (by-cells _ _ _ (omega arith) c.if-s-n.false c.if-e-le6000.false)) in record { value = both.0; value_2 = both.1 }

@@ -7,6 +7,6 @@ pub returns-then-t-ge2000 : goal.returns-then-t-ge2000
 unfolding within
 returns-then-t-ge2000 c = rw (le-leb 2000 _ c.if-t-ge2000.true)
 
-pub returns : goal.returns
+pub returns-else-t-ge2000 : goal.returns-else-t-ge2000
 unfolding within
-returns c = rw (lt-leb 2000 _ c.if-t-ge2000.false)
+returns-else-t-ge2000 c = rw (lt-leb 2000 _ c.if-t-ge2000.false)
