@@ -1,6 +1,6 @@
 -- A reader refuses, and says that nothing is left, exactly where document 02 says so; its place then stays put.
 -- Assumes nothing.
-use Rattle.std.specs.Prelude.{◌≡◌, refl, Bool, true, false, ◌&&◌, List, ℕ, ◌+◌, ◌-◌, ◌*◌, ◌≤◌, ◌<◌, leb, ltb, eqb, take, drop}
+use Rattle.std.specs.Prelude.{◌≡◌, refl, Bool, true, false, ◌&&◌, List, ℕ, ◌+◌, ◌-◌, ◌*◌, ◌≤◌, ◌<◌, leb, ltb, eqb, take, drop, Some, None, Ok, Err}
 use Rattle.std.proofs.Common.{sym, ap, true≢false, inl}
 use Rattle.std.proofs.Math.Logic.{inr, ⊎_elim}
 use native.Mathlib.Omega.{arith}
@@ -8,24 +8,23 @@ use Rattle.std.proofs.Math.ListN.{length, get_or}
 use borrow.Author.Tests.{leb-true, leb-false, ltb-true, ltb-false, eqb-true, eqb-false}
 use Rattle.laws.specs.Tests.{by-test, clash}
 use Rattle.crc.specs.CheckByte.{check_byte}
-use Rattle.bus_wire.specs.declared.Handed.{Handed}
-use Rattle.bus_wire.specs.declared.Handed.TheVariants.{Word, Refused, Nothing}
+use Rattle.bus_wire.specs.Handed.{Handed, Word, Refused, Nothing}
 use Rattle.bus_wire.specs.Records.{no_record, is_record, handed_at}
 use Rattle.bus_wire.specs.Exactly.{Wrong, Turned}
 
 -- What is handed out has one of three kinds.
 abbrev kind_of : Handed → ℕ
-kind_of (Word c w) = 0
-kind_of (Refused k) = 1
-kind_of Nothing = 2
+kind_of (Some (Ok r)) = 0
+kind_of (Some (Err k)) = 1
+kind_of None = 2
 
 not-kind : {X : Type 0} (h g : Handed) → h ≡ g → (kind_of h ≡ kind_of g → ⊥) → X
 not-kind h g e n = absurd (n (ap kind_of e))
 
 abbrev number_in : Handed → ℕ
-number_in (Word c w) = 0
-number_in (Refused k) = k
-number_in Nothing = 0
+number_in (Some (Ok r)) = 0
+number_in (Some (Err k)) = k
+number_in None = 0
 
 all-three : (a b c : Bool) → a && b && c ≡ true → (a ≡ true) × (b ≡ true) × (c ≡ true)
 all-three true true c r = (refl, refl, r)

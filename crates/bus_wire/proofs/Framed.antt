@@ -8,8 +8,7 @@ use Rattle.std.proofs.Math.ListN.{length, length-append}
 use Rattle.std.proofs.Math.Seq.{drop-append_seam, get_or-append-add, get_or-append_seam}
 use borrow.Author.Tests.{le-leb, lt-leb, le-ltb, eq-eqb}
 use Rattle.crc.specs.CheckByte.{check_byte}
-use Rattle.bus_wire.specs.declared.Handed.{Handed}
-use Rattle.bus_wire.specs.declared.Handed.TheVariants.{Word, Nothing}
+use Rattle.bus_wire.specs.Handed.{Handed, Word, Nothing}
 use Rattle.bus_wire.specs.Records.{is_record, handed_at, handed_to}
 use Rattle.bus_wire.specs.Framed.{five_of, record_of, recording, records_of, words_of}
 
