@@ -11,40 +11,28 @@ ghost use Rattle.laws.specs.Latest.{next_run};
 pub fn has_bit(w: u16, i: u8) -> bool
     ensures { result ≡ has_bit w i }
 {
-    if i < 16 {
-        return (w >> i) % 2 == 1;
-    }
-    false
+    i < 16 && (w >> i) % 2 == 1
 }
 
 // The word with bit i set where `on` holds; past the sixteenth there is none to set.
+#[tactic(auto, unfolding(crate::specs::Bits::with_bit_if))]
 pub fn with_bit_if(w: u16, i: u8, on: bool) -> u16
     ensures { result ≡ with_bit_if on w i }
 {
-    if on {
-        if i < 16 {
-            return w | (1u16 << i);
-        }
-    }
-    w
+    if on && i < 16 { w | (1u16 << i) } else { w }
 }
 
 // A run, one sample on: one longer if the sample counts, else none. It stays where a byte ends.
+#[tactic(auto, unfolding(crate::specs::Latest::next_run))]
 pub fn next_run(counts: bool, run: u8) -> u8
     ensures { result ≡ next_run counts run }
 {
-    if counts {
-        if run < 255 {
-            return run + 1;
-        }
-        return run;
-    }
-    0
+    if counts { run.saturating_add(1) } else { 0 }
 }
 
 // A byte as a wider number, of which it is still known that it is a byte.
 pub fn wide(b: u8) -> u32
     ensures { (result ≡ b) × (result ≤ 255) }
 {
-    b as u32
+    u32::from(b)
 }

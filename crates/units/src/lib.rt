@@ -38,28 +38,19 @@ pub struct PageLevel(pub i32);
 pub fn ten_at_most(count: u8) -> usize
     ensures { result ≡ ten_at_most count }
 {
-    if count < 10 {
-        return count as usize;
-    }
-    10
+    usize::from(count.min(10))
 }
 
 // A word read as a signed number. Currents and the page's signed levels come in this way.
 pub fn signed_of(word: u16) -> i16
     ensures { result ≡ signed_of word }
 {
-    if word < 32768 {
-        return word as i16;
-    }
-    ((word as i32) - 65536) as i16
+    word.cast_signed()
 }
 
 // A signed number as the word that is sent for it.
 pub fn word_of(number: i16) -> u16
     ensures { result ≡ word_of number }
 {
-    if number < 0 {
-        return ((number as i32) + 65536) as u16;
-    }
-    number as u16
+    number.cast_unsigned()
 }
