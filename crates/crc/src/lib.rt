@@ -12,11 +12,12 @@ const HALF: [u8; 16] = [0, 7, 14, 9, 28, 27, 18, 21, 56, 63, 54, 49, 36, 35, 42,
 fn half(c: u8) -> u8
     ensures { result ≡ times_xs 4 c }
 {
-    let h = (c / 16) as usize;
+    let h = usize::from(c / 16);
     HALF[h] ^ (c % 16 * 16)
 }
 
 // The remainder after one more byte: its upper half, then its lower half.
+#[tactic(auto, unfolding(crate::specs::CheckByte::with_byte, crate::specs::CheckByte::times_xs))]
 fn with_byte(c: u8, b: u8) -> u8
     ensures { result ≡ with_byte c b }
 {
@@ -29,15 +30,14 @@ pub fn go_on(c: u8, bytes: &[u8]) -> u8
     ensures { result ≡ remainder c bytes.now }
 {
     let mut left = c;
-    let mut i: usize = 0;
-    while i < bytes.len() {
-        left = with_byte(left, bytes[i]);
-        i += 1;
+    for b in bytes {
+        left = with_byte(left, *b);
     }
     left
 }
 
 // The check byte of a run of bytes of any length; of none it is 0.
+#[tactic(auto, unfolding(crate::specs::CheckByte::check_byte))]
 pub fn check_byte(bytes: &[u8]) -> u8
     ensures { result ≡ check_byte bytes.now }
 {

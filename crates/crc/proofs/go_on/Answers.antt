@@ -1,19 +1,11 @@
 -- `crc::go_on` meets its contract
-use mathlib.Core.Path.{sym, ap, ◌∙◌}
-use native.Mathlib.Omega.{arith}
-use lib.Seq.{take_all}
-use Rattle.crc.specs.CheckByte.{remainder}
+use Rattle.std.proofs.Common.{sym, arith}
 use Rattle.crc.specs.Vectors.{of-no-more}
 use Rattle.crc.specs.Next.{remainder-next}
 use Rattle.crc.proofs.go_on.Goals as goal
 
-pub loop-i-init : goal.loop-i-init
-loop-i-init c = (omega arith, sym (of-no-more _))
+pub loop-b-init : goal.loop-b-init
+loop-b-init c = sym (of-no-more _)
 
-pub loop-i-preserved : goal.loop-i-preserved
-loop-i-preserved c = let at_entry_lem = c.args in
-    (omega arith, remainder-next at_entry_lem.c at_entry_lem.bytes.now c.loop-i.i _ _ (omega arith) c.loop-i.invariant.1 c.with_byte-left.ensures)
-
-pub returns : goal.returns
-returns c = let at_entry_lem = c.args in
-    c.loop-i.invariant.1 ∙ ap (remainder at_entry_lem.c) (take_all c.loop-i.i at_entry_lem.bytes.now (omega arith))
+pub loop-b-preserved : goal.loop-b-preserved
+loop-b-preserved c = remainder-next _ _ _ _ _ (omega arith) c.loop-b.invariant c.with_byte-left.ensures
