@@ -4,7 +4,7 @@
 
 ghost use Rattle.std.specs.Prelude.{◌≡◌};
 ghost use Rattle.units.specs.Levels.{level};
-ghost use Rattle.sample.specs.Cells.{larger, smaller, widened, extremes_of};
+ghost use Rattle.sample.specs.Cells.{widened, extremes_of};
 ghost use Rattle.sample.specs.Measure.{measured};
 ghost use Rattle.sample.specs.None.{no_sample};
 
@@ -13,7 +13,7 @@ use units::{CellNo, DeciKelvin, Level, MilliVolts, ten_at_most};
 
 // A sample: the first `count` entries are cells 1 to `count`, and the entries past them are no cells.
 #[repr(C)]
-#[derive(Clone, Copy)]
+#[derive(Clone, Copy, Debug, PartialEq, Eq)]
 pub struct Sample {
     pub count: u8,
     pub cells: [MilliVolts; 10],
@@ -23,14 +23,14 @@ pub struct Sample {
 }
 
 // A cell that was found: its number, and its millivolts.
-#[derive(Clone, Copy)]
+#[derive(Clone, Copy, Debug, PartialEq, Eq)]
 pub struct Found {
     pub number: CellNo,
     pub volts: MilliVolts,
 }
 
 // The highest and the lowest cell of a sample.
-#[derive(Clone, Copy)]
+#[derive(Clone, Copy, Debug, PartialEq, Eq)]
 pub struct Extremes {
     pub highest: Found,
     pub lowest: Found,
@@ -51,36 +51,22 @@ pub fn no_sample() -> Sample
 
 // ---- highest and lowest cell
 
-// The larger of two; of two that are equal, the first.
-fn larger_of(a: Found, b: Found) -> Found
-    ensures { result ≡ larger a b }
-{
-    if a.volts.0 < b.volts.0 {
-        return b;
-    }
-    a
-}
-
-// The smaller of two; of two that are equal, the first.
-fn smaller_of(a: Found, b: Found) -> Found
-    ensures { result ≡ smaller a b }
-{
-    if b.volts.0 < a.volts.0 {
-        return b;
-    }
-    a
-}
-
-// The extremes with one cell more.
+// The extremes with one cell more; of two that are equal, the first.
+#[tactic(auto, unfolding(crate::specs::Cells::widened))]
 fn widened(e: Extremes, cell: Found) -> Extremes
     ensures { result ≡ widened e cell }
 {
-    let highest = larger_of(e.highest, cell);
-    let lowest = smaller_of(e.lowest, cell);
-    Extremes {
-        highest: highest,
-        lowest: lowest,
-    }
+    let highest = if e.highest.volts < cell.volts {
+        cell
+    } else {
+        e.highest
+    };
+    let lowest = if cell.volts < e.lowest.volts {
+        cell
+    } else {
+        e.lowest
+    };
+    Extremes { highest, lowest }
 }
 
 // The highest and the lowest of the first `count` cells, of equal cells the one with the lowest number; of none, number 0 and 0 mV.
@@ -107,17 +93,17 @@ pub fn extremes_of(cells: [MilliVolts; 10], count: u8) -> Extremes
         lowest: first,
     };
     // Ten turns, with a return behind the last cell: so the compiler writes the turns out.
-    let mut i: usize = 1;
-    while i < 10 {
+    for i in 1..10 {
         if n <= i {
             return e;
         }
-        let cell = Found {
-            number: CellNo((i + 1) as u8),
-            volts: cells[i],
-        };
-        e = widened(e, cell);
-        i += 1;
+        e = widened(
+            e,
+            Found {
+                number: CellNo((i + 1) as u8),
+                volts: cells[i],
+            },
+        );
     }
     e
 }
@@ -129,10 +115,10 @@ pub fn measured(q: Quantity, s: Sample, e: Extremes) -> Level
     ensures { result ≡ level (measured e q s) }
 {
     match q {
-        Quantity::HighestCell => Level(e.highest.volts.0 as i32),
-        Quantity::LowestCell => Level(e.lowest.volts.0 as i32),
-        Quantity::Current => Level(s.current as i32),
-        Quantity::Temperature1 => Level(s.t1.0 as i32),
-        Quantity::Temperature2 => Level(s.t2.0 as i32),
+        Quantity::HighestCell => Level(i32::from(e.highest.volts.0)),
+        Quantity::LowestCell => Level(i32::from(e.lowest.volts.0)),
+        Quantity::Current => Level(i32::from(s.current)),
+        Quantity::Temperature1 => Level(i32::from(s.t1.0)),
+        Quantity::Temperature2 => Level(i32::from(s.t2.0)),
     }
 }
