@@ -7,8 +7,7 @@ use Rattle.std.proofs.Common.{◌∙◌, zero-lt-suc}
 use Rattle.laws.specs.Tests.{by-test, clash}
 use Rattle.refusals.specs.Answers.{answer_of}
 use Rattle.refusals.specs.Refusals.{given}
-use Rattle.refusals.specs.declared.Verdict.{Verdict}
-use Rattle.refusals.specs.declared.Verdict.TheVariants.{Accepted}
+use Rattle.refusals.specs.Verdicts.{Verdict, Accepted}
 use Rattle.sample.specs.declared.Extremes.{Extremes}
 use Rattle.sample.specs.declared.Sample.{Sample}
 use Rattle.sample.specs.Cells.{extremes_of}

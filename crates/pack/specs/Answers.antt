@@ -1,7 +1,7 @@
 -- What the calls answer: a verdict, and the pack behind it.
 -- Assumes nothing.
 use Rattle.std.specs.Prelude.{cond, ℕ}
-use Rattle.refusals.specs.declared.Verdict.{Verdict}
+use Rattle.refusals.specs.Verdicts.{Verdict}
 use Rattle.sample.specs.declared.Sample.{Sample}
 use Rattle.pack_refusals.specs.Samples.{sample_verdict, command_verdict, trimmed}
 use Rattle.pack_state.specs.declared.Pack.{Pack}

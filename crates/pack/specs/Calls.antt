@@ -1,7 +1,7 @@
 -- Each call leads from the state after some events to the state after one event more, and hands on that it stands for them. Of an offered sample
 -- that is shown in proofs/Offered.antt.
 -- Assumes nothing.
-use Rattle.std.specs.Prelude.{◌≡◌, refl, List, [], ◌∷◌, ℕ, ◌%◌, ◌<◌}
+use Rattle.std.specs.Prelude.{Ok, Err, ◌≡◌, refl, List, [], ◌∷◌, ℕ, ◌%◌, ◌<◌}
 use Rattle.std.proofs.Math.Path.{sym, ap}
 use Rattle.std.proofs.Common.{◌∙◌, arith}
 use Rattle.std.proofs.Math.Nat.{mod-eq_of_lt}
@@ -10,8 +10,7 @@ use Rattle.page_judge.specs.Page.{judged, refusals}
 use Rattle.page_judge.specs.Walk.{judged-answer}
 use Rattle.refusals.specs.Answers.{answer_of}
 use Rattle.refusals.specs.Refusals.{given}
-use Rattle.refusals.specs.declared.Verdict.{Verdict}
-use Rattle.refusals.specs.declared.Verdict.TheVariants.{Accepted, Refused}
+use Rattle.refusals.specs.Verdicts.{Verdict, Accepted, Refused}
 use Rattle.sample.specs.declared.Sample.{Sample}
 use Rattle.pack_refusals.specs.Samples.{sample_refusals, sample_verdict, command_refusals, command_verdict}
 use Rattle.pack_refusals.specs.SampleLaws.{command-most}
@@ -30,8 +29,8 @@ use Rattle.pack.specs.Kept.{page_of, past_after, pack_after, Kept, after_load}
 
 page-with : (v : Verdict) (bytes : List ℕ) → judged bytes ≡ v → 0 < (loaded_with v bytes).settings.rules.n → Good (loaded_with v bytes).settings
 unfolding no_settings
-page-with Accepted bytes e h = accepted-good bytes e
-page-with (Refused k w) bytes e h = absurd (omega arith)
+page-with (Ok done) bytes e h = accepted-good bytes e
+page-with (Err refusal) bytes e h = absurd (omega arith)
 
 pub page-good : (bytes : List ℕ) → 0 < (page_of bytes).rules.n → Good (page_of bytes)
 unfolding loaded_of
@@ -73,8 +72,8 @@ kept-watched p k = rw k.is (state-watched (page_of k.bytes) (past_after k.bytes 
 -- ---- the ends of the calls, in the code's own terms: the answer, its number and word, and what it hands on
 
 verdict-is : (v : Verdict) (bytes : List ℕ) → (loaded_with v bytes).verdict ≡ v
-verdict-is Accepted bytes = refl
-verdict-is (Refused k w) bytes = refl
+verdict-is (Ok done) bytes = refl
+verdict-is (Err refusal) bytes = refl
 
 pub load-is : (bytes : List ℕ) (l : Loaded) (q : Pack) → l ≡ loaded_of bytes → q ≡ fresh_pack l.settings
     → (answered l.verdict q ≡ after_load bytes) × ((answer_of l.verdict ≡ given (refusals bytes)) × Kept q)

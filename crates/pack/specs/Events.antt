@@ -1,9 +1,8 @@
 -- What happens to a pack after its load: samples are offered and switches are commanded, and some of both are refused.
 -- Lists have the latest first.
 -- Assumes nothing.
-use Rattle.std.specs.Prelude.{Bool, true, false, cond, List, [], ◌∷◌, ℕ}
-use Rattle.refusals.specs.declared.Verdict.{Verdict}
-use Rattle.refusals.specs.declared.Verdict.TheVariants.{Accepted, Refused}
+use Rattle.std.specs.Prelude.{Ok, Err, Bool, true, false, cond, List, [], ◌∷◌, ℕ}
+use Rattle.refusals.specs.Verdicts.{Verdict}
 use Rattle.sample.specs.declared.Sample.{Sample}
 use Rattle.pack_state.specs.Past.{Past, past}
 use Rattle.pack_refusals.specs.Samples.{sample_verdict, command_verdict, trimmed}
@@ -13,8 +12,8 @@ pub data Event : Type 0 where
   command : ℕ → Event
 
 abbrev pub accepts : Verdict → Bool
-accepts Accepted = true
-accepts (Refused number word) = false
+accepts (Ok done) = true
+accepts (Err refusal) = false
 
 -- One event more, in a pack of n cells. A refused one leaves no trace.
 unfoldable pub with_event : ℕ → Event → Past → Past

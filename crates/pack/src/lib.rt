@@ -21,6 +21,7 @@ use sample::{Sample, extremes_of, no_sample};
 use units::CellNo;
 
 // What a call answers, beside the state that it hands back.
+// Kept (promise): `load`, `offer` and `command` hand a pack back on a refusal too (`Kept result.pack`), so this is no Result.
 #[derive(Clone, Copy)]
 pub struct Answered {
     pub verdict: Verdict,
@@ -42,18 +43,13 @@ fn fresh_balance() -> Balance
 fn fresh_pack(s: Settings) -> Pack
     ensures { result ≡ fresh_pack s }
 {
-    let rules = s.rules;
-    let limits = s.limits;
-    let protections = fresh(limits);
-    let watch = watch_of(protections);
-    let balance = fresh_balance();
-    let latest = no_sample();
+    let protections = fresh(s.limits);
     Pack {
-        rules: rules,
-        protections: protections,
-        watch: watch,
-        balance: balance,
-        latest: latest,
+        rules: s.rules,
+        protections,
+        watch: watch_of(protections),
+        balance: fresh_balance(),
+        latest: no_sample(),
         sampled: false,
         command: 0,
         tick: 0,
@@ -67,12 +63,9 @@ pub fn load(bytes: &[u8]) -> Answered
     ensures kept { Kept result.pack }
 {
     let loaded = page_settings::load(bytes);
-    let verdict = loaded.verdict;
-    let s = loaded.settings;
-    let pack = fresh_pack(s);
     Answered {
-        verdict: verdict,
-        pack: pack,
+        verdict: loaded.verdict,
+        pack: fresh_pack(loaded.settings),
     }
 }
 
@@ -83,23 +76,14 @@ pub fn offer(p: Pack, s: Sample) -> Answered
     ensures verdict_value { answer_of result.verdict ≡ given (sample_refusals p.rules.n s) }
     ensures kept { Kept result.pack }
 {
-    let rules = p.rules;
-    let cells = s.cells;
-    let e = extremes_of(cells, s.count);
-    let verdict = sample_verdict(rules.n, s, e);
+    let e = extremes_of(s.cells, s.count);
+    let verdict = sample_verdict(p.rules.n, s, e);
     match verdict {
-        Verdict::Accepted => {
-            let t = trim(s);
-            let next = accept(p, t, e);
-            Answered {
-                verdict: verdict,
-                pack: next,
-            }
-        }
-        Verdict::Refused { .. } => Answered {
-            verdict: verdict,
-            pack: p,
+        Ok(()) => Answered {
+            verdict,
+            pack: accept(p, trim(s), e),
         },
+        Err(_) => Answered { verdict, pack: p },
     }
 }
 
@@ -112,17 +96,14 @@ pub fn command(p: Pack, c: u16) -> Answered
 {
     let verdict = command_verdict(c);
     match verdict {
-        Verdict::Accepted => {
+        Ok(()) => {
             let mut next = p;
             next.command = (c % 256) as u8;
             Answered {
-                verdict: verdict,
+                verdict,
                 pack: next,
             }
         }
-        Verdict::Refused { .. } => Answered {
-            verdict: verdict,
-            pack: p,
-        },
+        Err(_) => Answered { verdict, pack: p },
     }
 }

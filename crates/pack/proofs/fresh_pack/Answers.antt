@@ -4,4 +4,4 @@ use Rattle.pack.proofs.fresh_pack.Goals as goal
 
 pub returns : goal.returns
 unfolding fresh_pack
-returns c = rw (c.no_sample-latest.ensures, c.fresh_balance-balance.ensures, c.watch_of-watch.ensures, c.fresh-protections.ensures)
+returns c = rw (c.no_sample.ensures, c.fresh_balance.ensures, c.watch_of.ensures, c.fresh-protections.ensures)
