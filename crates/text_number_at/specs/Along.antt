@@ -1,5 +1,5 @@
 -- The field at a place of some bytes out of which no line was cut: it ends at a tab or a newline, whatever stands behind.
-use Rattle.std.specs.Prelude.{ℕ, suc, ◌+◌, ◌-◌, ◌<◌, ◌≤◌, ◌≡◌, Bool, false, cond, ◌&&◌, ◌||◌, ◌⊎◌, ltb, eqb, length, take, get_or}
+use Rattle.std.specs.Prelude.{is_some, Option, Some, None, ℕ, suc, ◌+◌, ◌-◌, ◌<◌, ◌≤◌, ◌≡◌, Bool, false, cond, ◌&&◌, ◌||◌, ◌⊎◌, ltb, eqb, length, take, get_or}
 use Rattle.std.proofs.Math.Path.{refl, ap}
 use Rattle.std.proofs.Common.{sym, ◌∙◌, inl, inr, add-one, arith, lit≤, drop_of_length-le, drop-cons}
 use Rattle.std.proofs.Math.Bool.{true}
@@ -12,13 +12,8 @@ use Rattle.text_fields.specs.Finding.{before, lacks, lacks-head, before-at, befo
 use Rattle.text_numbers.specs.Numbers.{read_number}
 use Rattle.text_fields.specs.Spelling.{decimal-lacks}
 use Rattle.text_numbers.specs.Canonical.{number-text}
-use Rattle.text_numbers.specs.declared.Number.{Number}
-use Rattle.text_numbers.specs.declared.Number.TheVariants.{Value, Malformed}
-use Rattle.text_number_at.specs.Four.{not_four}
-use Rattle.text_number_at.specs.NumberAt.{with_end, value-is, none-is, four_at, four-split, read_four_at, four-read}
-use Rattle.text_number_at.specs.declared.FourRead.{FourRead}
 use Rattle.text_number_at.specs.declared.FieldNumber.{FieldNumber}
-use Rattle.text_number_at.specs.declared.FieldNumber.TheVariants as field
+use Rattle.text_number_at.specs.NumberAt.{Found, with_end, value-is, none-is, four_at, four-split, read_four_at, four-read}
 
 -- the field that starts at from: the bytes up to the next tab or newline
 abbrev pub field_along : List ℕ → ℕ → List ℕ
@@ -29,9 +24,9 @@ abbrev pub end_along : List ℕ → ℕ → ℕ
 end_along bytes from = from + length (field_along bytes from)
 
 -- as a number, and where it ends; where neither a tab nor a newline is left, it does not end, and there is none
-abbrev pub number_along : List ℕ → ℕ → FieldNumber
+abbrev pub number_along : List ℕ → ℕ → Option FieldNumber
 number_along bytes from =
-    cond (ltb (end_along bytes from) (length bytes)) (with_end (read_number (field_along bytes from)) (end_along bytes from)) field.Malformed
+    cond (ltb (end_along bytes from) (length bytes)) (with_end (read_number (field_along bytes from)) (end_along bytes from)) None
 
 -- whether a byte ends a field
 abbrev pub ends_field : ℕ → Bool
@@ -46,8 +41,8 @@ abbrev pub four_before_tab : List ℕ → ℕ → Bool
 four_before_tab bytes from = ltb from (length bytes - 4) && eqb (get_or bytes (from + 4) 0) 9
 
 -- four bytes and a tab behind them, as the code reads them; where no tab stands there, nothing is read
-unfoldable pub four_tabbed : List ℕ → ℕ → FourRead
-four_tabbed bytes from = cond (four_before_tab bytes from) (read_four_at bytes from) not_four
+unfoldable pub four_tabbed : List ℕ → ℕ → Option ℕ
+four_tabbed bytes from = cond (four_before_tab bytes from) (read_four_at bytes from) None
 
 -- ---- the search for the end
 
@@ -86,17 +81,17 @@ module _ (bytes : List ℕ) (from e : ℕ) (h : e ≡ end_along bytes from) wher
       ap (λ (j : ℕ). take j (drop from bytes)) n ∙ sym (front (drop from bytes))
 
   -- nothing ends the field
-  pub along-open : length bytes ≤ e → field.Malformed ≡ number_along bytes from
+  pub along-open : length bytes ≤ e → None ≡ number_along bytes from
   along-open l = rw (le-ltb (end_along bytes from) (length bytes) (omega arith))
 
   -- the field was read as n
-  pub along-read : e < length bytes → (n : Number) → n ≡ read_number (field_along bytes from) → with_end n e ≡ number_along bytes from
+  pub along-read : e < length bytes → (n : Option ℕ) → n ≡ read_number (field_along bytes from) → with_end n e ≡ number_along bytes from
   along-read l n q = rw (lt-ltb (end_along bytes from) (length bytes) (omega arith), h, ← q)
 
 -- what was read says so of the field
 module _ (bytes : List ℕ) (from : ℕ) where
-  pub along-value : (v e : ℕ) → number_along bytes from ≡ field.Value v e
-      → (read_number (field_along bytes from) ≡ Value v) × (e ≡ end_along bytes from) × (e < length bytes)
+  pub along-value : (v e : ℕ) → number_along bytes from ≡ Found v e
+      → (read_number (field_along bytes from) ≡ Some v) × (e ≡ end_along bytes from) × (e < length bytes)
   along-value v e q =
       by-test (ltb (end_along bytes from) (length bytes))
       (λ t.
@@ -105,10 +100,10 @@ module _ (bytes : List ℕ) (from : ℕ) where
       (r.0, r.1, omega (arith, l, r.1)))
       (λ t. absurd (no-value v e (rw t at q)))
     where
-      no-value : (v e : ℕ) → field.Malformed ≡ field.Value v e → ⊥
+      no-value : (v e : ℕ) → None ≡ Found v e → ⊥
       no-value v e q = let z : ◌≡◌ {A = ℕ} 0 1 = cc in omega arith
 
-  pub along-none : number_along bytes from ≡ field.Malformed → (read_number (field_along bytes from) ≡ Malformed) ⊎ (length bytes ≤ end_along bytes from)
+  pub along-none : number_along bytes from ≡ None → (read_number (field_along bytes from) ≡ None) ⊎ (length bytes ≤ end_along bytes from)
   along-none q =
       by-test (ltb (end_along bytes from) (length bytes))
       (λ t. inl (none-is (read_number (field_along bytes from)) (end_along bytes from) (rw t at q)))
@@ -126,7 +121,7 @@ module _ (bytes : List ℕ) (from : ℕ) (t : four_ended bytes from ≡ true) wh
   ended-within = let k = ltb-true from (length bytes - 4) (and-left _ _ t) in omega arith
 
   -- a number of four digits up to the tab or the newline is the field
-  ended-field : (v : ℕ) → read_number (four_at bytes from) ≡ Value v → field_along bytes from ≡ four_at bytes from
+  ended-field : (v : ℕ) → read_number (four_at bytes from) ≡ Some v → field_along bytes from ≡ four_at bytes from
   unfolding before
   ended-field v e =
       let s = (number-text 65535 (four_at bytes from) v e).0 in
@@ -145,7 +140,7 @@ module _ (bytes : List ℕ) (from : ℕ) (t : four_ended bytes from ≡ true) wh
       (or-cases (eqb (get_or bytes (from + 4) 0) 9) (eqb (get_or bytes (from + 4) 0) 10) (and-right (ltb from (length bytes - 4)) _ t))
 
   -- the quick way gives what the field says
-  pub along-quick : (v : ℕ) → read_number (four_at bytes from) ≡ Value v → field.Value v (from + 4) ≡ number_along bytes from
+  pub along-quick : (v : ℕ) → read_number (four_at bytes from) ≡ Some v → Found v (from + 4) ≡ number_along bytes from
   along-quick v e =
       let f = ended-field v e in
       let h = ended-within in
@@ -153,9 +148,9 @@ module _ (bytes : List ℕ) (from : ℕ) (t : four_ended bytes from ≡ true) wh
 
 -- what was read before a tab is the field that starts there
 module _ (bytes : List ℕ) (from : ℕ) where
-  tabbed-is : (four_tabbed bytes from).spelt ≡ true → (four_before_tab bytes from ≡ true) × (four_tabbed bytes from ≡ read_four_at bytes from)
+  tabbed-is : (v : ℕ) → four_tabbed bytes from ≡ Some v → (four_before_tab bytes from ≡ true) × (read_four_at bytes from ≡ Some v)
   unfolding four_tabbed
-  tabbed-is s = by-test (four_before_tab bytes from) (λ t. (t, rw t)) (λ t. clash refl (sym (rw t at s)))
+  tabbed-is v s = by-test (four_before_tab bytes from) (λ t. (t, rw t at s)) (λ t. clash refl (sym (ap is_some (rw t at s))))
 
   before-tab : four_before_tab bytes from ≡ true → (four_ended bytes from ≡ true) × (get_or bytes (from + 4) 0 ≡ 9)
   before-tab t =
@@ -163,9 +158,9 @@ module _ (bytes : List ℕ) (from : ℕ) where
       let e = and-right (ltb from (length bytes - 4)) (eqb (get_or bytes (from + 4) 0) 9) t in
       (rw (l, e), eqb-true (get_or bytes (from + 4) 0) 9 e)
 
-  module _ (r : FourRead) (e : r ≡ four_tabbed bytes from) (s : r.spelt ≡ true) where
-    tabbed : (four_before_tab bytes from ≡ true) × (r ≡ read_four_at bytes from)
-    tabbed = let q = tabbed-is (rw e at s) in (q.0, e ∙ q.1)
+  module _ (v : ℕ) (e : four_tabbed bytes from ≡ Some v) where
+    tabbed : (four_before_tab bytes from ≡ true) × (read_four_at bytes from ≡ Some v)
+    tabbed = tabbed-is v e
 
     pub tabbed-tab : get_or bytes (from + 4) 0 ≡ 9
     tabbed-tab = (before-tab tabbed.0).1
@@ -173,5 +168,5 @@ module _ (bytes : List ℕ) (from : ℕ) where
     pub tabbed-within : from + 5 ≤ length bytes
     tabbed-within = let l = ended-within bytes from (before-tab tabbed.0).0 in omega arith
 
-    pub tabbed-along : ((i : ℕ) → get_or bytes i 0 < 256) → number_along bytes from ≡ field.Value r.number (from + 4)
-    tabbed-along h = sym (along-quick bytes from (before-tab tabbed.0).0 r.number (four-read bytes from h r tabbed.1 s))
+    pub tabbed-along : ((i : ℕ) → get_or bytes i 0 < 256) → number_along bytes from ≡ Found v (from + 4)
+    tabbed-along h = sym (along-quick bytes from (before-tab tabbed.0).0 v (four-read bytes from h v tabbed.1))

@@ -1,11 +1,10 @@
 -- Four bytes held in one number: a test of all four at once, and the number that they spell.
-use Rattle.std.specs.Prelude.{ℕ, zero, suc, ◌+◌, ◌*◌, ◌/◌, ◌%◌, ◌<◌, ◌≤◌, ◌≡◌, refl, Bool, true, false, cond, not, ◌&&◌, ◌||◌, leb, eqb}
+use Rattle.std.specs.Prelude.{Option, Some, None, ℕ, zero, suc, ◌+◌, ◌*◌, ◌/◌, ◌%◌, ◌<◌, ◌≤◌, ◌≡◌, refl, Bool, true, false, cond, not, ◌&&◌, ◌||◌, leb, eqb}
 use Rattle.std.proofs.Common.{sym, ap, ap₂, ◌∙◌, ⊎_elim, not-suc-le-zero, eq-or-lt_of_le, le_of_suc-le-suc, arith, lit<}
 use Rattle.std.specs.Int.Bits.{bit_and, bit_or, bit_xor}
 use Rattle.std.proofs.lemmas.Nat.{or_block, and_block, xor_block, or_lt, xor_lt}
 use borrow.Author.Tests.{leb-true, le-leb, eq-eqb, eqb-true}
-use Rattle.laws.specs.Tests.{and-left, and-right}
-use Rattle.text_number_at.specs.declared.FourRead.{FourRead}
+use Rattle.laws.specs.Tests.{by-test, and-left, and-right}
 
 -- four bytes as one number, the first one lowest
 abbrev pub together : ℕ → ℕ → ℕ → ℕ → ℕ
@@ -19,17 +18,13 @@ spells_four x = eqb (bit_and (bit_or (x + 0x76767676) (x + 0xFFFFFFFF)) 0x808080
 unfoldable pub valued : ℕ → ℕ
 valued x = (10 * x + x / 256) % 256 * 100 + (10 * x + x / 256) / 65536 % 256
 
--- what the code says of four bytes held so: whether they spell a number that does not begin with 0, and the number, or 0
-abbrev pub read_held : ℕ → FourRead
-read_held x = record { spelt = spells_four x; number = cond (spells_four x) (valued x) 0 }
+-- what the code says of four bytes held so: the number that they spell, unless it begins with 0
+abbrev pub read_held : ℕ → Option ℕ
+read_held x = cond (spells_four x) (Some (valued x)) None
 
 -- the same of four bytes of a text; 0x30303030 is '0' four times
-abbrev pub read_four : ℕ → ℕ → ℕ → ℕ → FourRead
+abbrev pub read_four : ℕ → ℕ → ℕ → ℕ → Option ℕ
 read_four a b c d = read_held (bit_xor (together a b c d) 0x30303030)
-
--- nothing was read
-abbrev pub not_four : FourRead
-not_four = record { spelt = false; number = 0 }
 
 -- the four bytes are digits, the first one is not 0, and v is the number that they spell
 pub record Spelt (a b c d v : ℕ) : Type 0 where
@@ -249,12 +244,20 @@ module _ (a b c d x : ℕ) (ha : a < 256) (hb : b < 256) (hc : c < 256) (hd : d 
 -- ---- what the code says of them
 
 module _ (x : ℕ) where
-  pub held-spelt : (v : ℕ) → spells_four x ≡ true → v ≡ valued x → record { spelt = true; number = v } ≡ read_held x
+  pub held-spelt : (v : ℕ) → spells_four x ≡ true → v ≡ valued x → Some v ≡ read_held x
   held-spelt v t e = rw (t, e)
 
-  pub held-not : spells_four x ≡ false → not_four ≡ read_held x
+  pub held-not : spells_four x ≡ false → None ≡ read_held x
   held-not t = rw t
 
+  held-is : (v : ℕ) → read_held x ≡ Some v → (spells_four x ≡ true) × (v ≡ valued x)
+  held-is v e =
+      by-test (spells_four x)
+      (λ t. let s : Some (valued x) ≡ Some v = rw t at e in (t, cc))
+      (λ t. let s : ◌≡◌ {A = Option ℕ} None (Some v) = rw t at e in absurd (let k : ◌≡◌ {A = ℕ} 0 1 = cc in omega arith))
+
 -- four bytes that are said to spell a number do
-pub four-spelt : (a b c d : ℕ) → a < 256 → b < 256 → c < 256 → d < 256 → (read_four a b c d).spelt ≡ true → Spelt a b c d (read_four a b c d).number
-four-spelt a b c d ha hb hc hd t = spelt-is a b c d (bit_xor (together a b c d) 0x30303030) ha hb hc hd refl t _ (rw t)
+pub four-spelt : (a b c d v : ℕ) → a < 256 → b < 256 → c < 256 → d < 256 → read_four a b c d ≡ Some v → Spelt a b c d v
+four-spelt a b c d v ha hb hc hd e =
+    let h = held-is (bit_xor (together a b c d) 0x30303030) v e in
+    spelt-is a b c d (bit_xor (together a b c d) 0x30303030) ha hb hc hd refl h.0 v h.1

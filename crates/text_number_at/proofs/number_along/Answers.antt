@@ -5,15 +5,15 @@ use Rattle.text_number_at.specs.NumberAt.{four-read}
 use Rattle.text_number_at.specs.Along.{ended-within, along-quick}
 use Rattle.text_number_at.proofs.number_along.Goals as goal
 
-pub four_at-f-requires : goal.four_at-f-requires
-four_at-f-requires c = let a = c.args in
+pub four_at-requires : goal.four_at-requires
+four_at-requires c = let a = c.args in
     omega (arith, ended-within a.bytes.now a.from (sym c.four_ended.ensures ∙ c.if-four_ended.true))
 
 pub overflow_add-result : goal.overflow_add-result
 overflow_add-result c = let a = c.args in
     omega (arith, ended-within a.bytes.now a.from (sym c.four_ended.ensures ∙ c.if-four_ended.true))
 
-pub returns-then-f : goal.returns-then-f
-returns-then-f c = let a = c.args in
+pub returns-in-Some : goal.returns-in-Some
+returns-in-Some c = let a = c.args in
     along-quick a.bytes.now a.from (sym c.four_ended.ensures ∙ c.if-four_ended.true)
-    _ (four-read a.bytes.now a.from (λ i. (c.type_inv.bytes i).fits) _ c.four_at-f.ensures c.if-f.true)
+    _ (four-read a.bytes.now a.from (λ i. (c.type_inv.bytes i).fits) _ (sym c.in-Some.ensures))
