@@ -1,7 +1,7 @@
 -- An `S` line read along from a place of some bytes: what is found is the line that starts there; and the steps of the reader.
--- Assumes nothing.
+-- Assumes None.
 use Prim.Native.Nat.{ℕ, suc, ◌+◌, ◌-◌, ◌<◌, ◌≤◌}
-use Rattle.std.specs.Prelude.{◌≡◌, refl, Bool, ltb, eqb, set}
+use Rattle.std.specs.Prelude.{◌≡◌, refl, Bool, ltb, eqb, set, Option, Some, None, is_none, unwrap_or}
 use Rattle.std.proofs.Math.Path.{sym, ap}
 use Rattle.std.proofs.Common.{◌∙◌, ⊎_elim, le_of_suc-le-suc, length-append, drop-cons, drop-drop, get_or-drop}
 use Rattle.std.proofs.Math.Bool.{true, false}
@@ -12,33 +12,31 @@ use borrow.Author.Tests.{lt-ltb, le-ltb, ltb-true, eqb-true, eq-eqb, ne_eqb}
 use Rattle.laws.specs.Tests.{by-test, by-order, clash, and-left, and-right}
 use Rattle.text_fields.specs.Finding.{before, lacks, lacks-head, before-length, before-lacks}
 use Rattle.text_fields.specs.Fields.{longer, fields_of}
-use Rattle.text_numbers.specs.declared.Number.{Number}
-use Rattle.text_numbers.specs.declared.Number.TheVariants as number
 use Rattle.text_numbers.specs.Numbers.{read_number}
 use Rattle.text_numbers.specs.Signs.{has_minus, past_minus}
-use Rattle.text_number_at.specs.declared.FieldNumber.TheVariants as field
-use Rattle.text_number_at.specs.declared.FourRead.{FourRead}
 use Rattle.text_number_at.specs.Along.{field_along, end_along, number_along, four_tabbed, along-value, along-none, tabbed-tab, tabbed-along}
 use Rattle.log_entries.specs.declared.Kind.{Kind}
 use Rattle.log_entries.specs.declared.Kind.TheVariants.{Offer, Command, Malformed}
 use Rattle.log_entries.specs.declared.Entry.{Entry}
+use Rattle.log_entries.specs.declared.Ahead.{Ahead}
+use Rattle.text_number_at.specs.NumberAt.{Found}
 use Rattle.log_entries.specs.Entry.{malformed, command, if_number, read_command, read_sample, read_entry}
 use Rattle.log_entries.specs.Left.{left, left-some, left-next}
 use Rattle.log_entries.proofs.Reading.{line-short, line-other, line-letter}
 use Rattle.log_entries.specs.InTurn.{read_numbers, behind, NoCell}
 use Rattle.log_entries.proofs.InTurn.{behind-over, behind-none, behind-next, sample-start}
-use Rattle.log_entries.specs.Ahead.{rest_of, end_from, nothing, found_of, found_as, found_in, read_ahead, ahead_behind, starts_sample}
+use Rattle.log_entries.specs.Ahead.{rest_of, end_from, found_of, found_as, found_in, read_ahead, ahead_behind, starts_sample}
 
 -- ---- nothing is found
 
 module _ (bytes : List ℕ) (end : ℕ) (e : Entry) where
-  pub nothing-said : found_as end e ≡ nothing → nothing ≡ found_in bytes end e
+  pub nothing-said : found_as end e ≡ None → None ≡ found_in bytes end e
   nothing-said q = by-test (ltb end (length bytes)) (λ t. rw t (sym q)) (λ t. rw t)
 
-  pub malformed-said : e ≡ malformed → nothing ≡ found_in bytes end e
+  pub malformed-said : e ≡ malformed → None ≡ found_in bytes end e
   malformed-said q = nothing-said (ap (found_as end) q)
 
-  pub not-ended : length bytes ≤ end → nothing ≡ found_in bytes end e
+  pub not-ended : length bytes ≤ end → None ≡ found_in bytes end e
   not-ended h = rw (le-ltb end (length bytes) h)
 
 -- ---- the first field of a line, up to its newline or to the tab behind it
@@ -84,12 +82,12 @@ some-field x = sym (left-some x 0 (omega arith)) ∙ left-next x 0 (before 9 x) 
 -- ---- one number more
 
 module _ (bytes : List ℕ) (at : ℕ) (below : Bool) (k : ℕ) (numbers : List ℕ) where
-  pub ahead-over : 13 ≤ k → nothing ≡ ahead_behind below k numbers bytes at
+  pub ahead-over : 13 ≤ k → None ≡ ahead_behind below k numbers bytes at
   ahead-over h =
       malformed-said bytes (end_from bytes at) (behind below k numbers (fields_of (rest_of bytes at)))
       (ap (behind below k numbers) (some-field (rest_of bytes at)) ∙ behind-over below _ _ k numbers h)
 
-  pub ahead-none : k < 13 → number_along bytes at ≡ field.Malformed → nothing ≡ ahead_behind below k numbers bytes at
+  pub ahead-none : k < 13 → number_along bytes at ≡ None → None ≡ ahead_behind below k numbers bytes at
   ahead-none h q =
       ⊎_elim
       (λ e. malformed-said bytes (end_from bytes at) (behind below k numbers (fields_of (rest_of bytes at))) (ap (behind below k numbers) (some-field (rest_of bytes at)) ∙ behind-none below _ _ k numbers h e))
@@ -97,8 +95,8 @@ module _ (bytes : List ℕ) (at : ℕ) (below : Bool) (k : ℕ) (numbers : List 
       (along-none bytes at q)
 
   -- The number v was read, and its field ends at e.
-  module _ (v e : ℕ) (h : k < 13) (l : length numbers ≡ 13) (n : NoCell k numbers) (q : number_along bytes at ≡ field.Value v e) where
-    read : (read_number (field_along bytes at) ≡ number.Value v) × (e ≡ end_along bytes at) × (e < length bytes)
+  module _ (v e : ℕ) (h : k < 13) (l : length numbers ≡ 13) (n : NoCell k numbers) (q : number_along bytes at ≡ Found v e) where
+    read : (read_number (field_along bytes at) ≡ Some v) × (e ≡ end_along bytes at) × (e < length bytes)
     read = along-value bytes at v e q
 
     there : length (before 9 (before 10 (drop at bytes))) < length (drop at bytes)
@@ -144,28 +142,28 @@ module _ (bytes : List ℕ) (at : ℕ) (below : Bool) (k : ℕ) (numbers : List 
 
   -- Four digits and a tab were read at once.
   module _ (h : k < 13) (l : length numbers ≡ 13) (n : NoCell k numbers) (b : (i : ℕ) → get_or bytes i 0 < 256) where
-    pub ahead-four : (r : FourRead) → r ≡ four_tabbed bytes at → r.spelt ≡ true
-        → (ahead_behind below (k + 1) (set numbers k r.number) bytes (at + 5) ≡ ahead_behind below k numbers bytes at)
-        × NoCell (k + 1) (set numbers k r.number)
-    ahead-four r e s =
-        let tab = tabbed-tab bytes at r e s in
+    pub ahead-four : (v : ℕ) → four_tabbed bytes at ≡ Some v
+        → (ahead_behind below (k + 1) (set numbers k v) bytes (at + 5) ≡ ahead_behind below k numbers bytes at)
+        × NoCell (k + 1) (set numbers k v)
+    ahead-four v e =
+        let tab = tabbed-tab bytes at v e in
         let place : at + 5 ≡ at + 4 + 1 = omega arith in
-        rw place (ahead-next r.number (at + 4) h l n (tabbed-along bytes at r e s b) (λ z. omega arith))
+        rw place (ahead-next v (at + 4) h l n (tabbed-along bytes at v e b) (λ z. omega arith))
 
 -- ---- the start of the line
 
-number-nothing : (n : Number) (end : ℕ) → found_as end (if_number n command) ≡ nothing
-number-nothing (number.Value v) end = refl
-number-nothing number.Malformed end = refl
+number-nothing : (n : Option ℕ) (end : ℕ) → found_as end (if_number n command) ≡ None
+number-nothing (Some v) end = refl
+number-nothing None end = refl
 
-command-nothing : (fs : List (List ℕ)) (end : ℕ) → found_as end (read_command fs) ≡ nothing
+command-nothing : (fs : List (List ℕ)) (end : ℕ) → found_as end (read_command fs) ≡ None
 unfolding read_command
 command-nothing [] end = refl
 command-nothing (f ∷ []) end = number-nothing (read_number f) end
 command-nothing (f ∷ g ∷ fs) end = refl
 
 -- A line of two bytes at least that does not start with `S` and a tab.
-other-letter : (a b : ℕ) (y : List ℕ) (end : ℕ) → (a ≡ 83 → ⊥) → found_as end (read_entry (before 10 (a ∷ b ∷ y))) ≡ nothing
+other-letter : (a b : ℕ) (y : List ℕ) (end : ℕ) → (a ≡ 83 → ⊥) → found_as end (read_entry (before 10 (a ∷ b ∷ y))) ≡ None
 unfolding before
 other-letter a b y end n =
     by-test (eqb a 10)
@@ -183,7 +181,7 @@ other-letter a b y end n =
     ap (found_as end)
     (line-other (a ∷ b ∷ before 10 y) (omega arith) (λ z. clash (eq-eqb b 9 z) w)))))))
 
-no-tab-behind : (a b : ℕ) (y : List ℕ) (end : ℕ) → (b ≡ 9 → ⊥) → found_as end (read_entry (before 10 (a ∷ b ∷ y))) ≡ nothing
+no-tab-behind : (a b : ℕ) (y : List ℕ) (end : ℕ) → (b ≡ 9 → ⊥) → found_as end (read_entry (before 10 (a ∷ b ∷ y))) ≡ None
 unfolding before
 no-tab-behind a b y end n =
     by-test (eqb a 10)
@@ -199,7 +197,7 @@ letter-and-tab y =
     line-letter (83 ∷ 9 ∷ before 10 y) (omega arith) refl ∙ ap read_sample (left-some (83 ∷ 9 ∷ before 10 y) 2 (omega arith))
 
 module _ (bytes : List ℕ) (from : ℕ) where
-  pub start-short : length bytes - from < 2 → nothing ≡ read_ahead bytes from
+  pub start-short : length bytes - from < 2 → None ≡ read_ahead bytes from
   unfolding read_ahead
   start-short h =
       malformed-said bytes (end_from bytes from) (read_entry (rest_of bytes from))
@@ -216,19 +214,19 @@ module _ (bytes : List ℕ) (from : ℕ) where
         ∙ drop-cons bytes (from + 1) 0 (omega arith)
         ∙ ap (λ (j : ℕ). get_or bytes (from + 1) 0 ∷ drop j bytes) b)
 
-    start-other : (get_or bytes from 0 ≡ 83 → ⊥) → nothing ≡ read_ahead bytes from
+    start-other : (get_or bytes from 0 ≡ 83 → ⊥) → None ≡ read_ahead bytes from
     unfolding read_ahead
     start-other n =
         nothing-said bytes (end_from bytes from) (read_entry (rest_of bytes from))
         (ap (λ (x : List ℕ). found_as (end_from bytes from) (read_entry (before 10 x))) two ∙ other-letter _ _ _ (end_from bytes from) n)
 
-    start-no-tab : (get_or bytes (from + 1) 0 ≡ 9 → ⊥) → nothing ≡ read_ahead bytes from
+    start-no-tab : (get_or bytes (from + 1) 0 ≡ 9 → ⊥) → None ≡ read_ahead bytes from
     unfolding read_ahead
     start-no-tab n =
         nothing-said bytes (end_from bytes from) (read_entry (rest_of bytes from))
         (ap (λ (x : List ℕ). found_as (end_from bytes from) (read_entry (before 10 x))) two ∙ no-tab-behind _ _ _ (end_from bytes from) n)
 
-    pub start-not : starts_sample bytes from ≡ false → nothing ≡ read_ahead bytes from
+    pub start-not : starts_sample bytes from ≡ false → None ≡ read_ahead bytes from
     start-not e =
         by-test (eqb (get_or bytes from 0) 83)
         (λ s. start-no-tab (λ q. clash (eq-eqb (get_or bytes (from + 1) 0) 9 q) (rw s at e)))
@@ -305,18 +303,20 @@ module _ (bytes : List ℕ) (at : ℕ) where
 
 -- ---- what was found
 
-found-is : (k : Kind) (end : ℕ) (e : Entry) → (found_of k end e).found ≡ true → ((found_of k end e).end ≡ end) × ((found_of k end e).entry ≡ e)
-found-is Offer end e t = (refl, refl)
-found-is Command end e t = clash t refl
-found-is Malformed end e t = clash t refl
+found-is : (k : Kind) (end : ℕ) (e : Entry) (a : Ahead) → found_of k end e ≡ Some a → (a.end ≡ end) × (a.entry ≡ e)
+found-is Offer end e a q =
+    let r : record { end = end; entry = e } ≡ a = ap (λ (o : Option Ahead). unwrap_or o a) q in
+    (sym (ap (λ (x : Ahead). x.end) r), sym (ap (λ (x : Ahead). x.entry) r))
+found-is Command end e a q = clash refl (ap is_none q)
+found-is Malformed end e a q = clash refl (ap is_none q)
 
 -- It is the line that starts there: its newline is the next one, and it says what the line says.
-pub ahead-is : (bytes : List ℕ) (from : ℕ) → (read_ahead bytes from).found ≡ true
-    → ((read_ahead bytes from).end ≡ end_from bytes from) × (end_from bytes from < length bytes) × ((read_ahead bytes from).entry ≡ read_entry (rest_of bytes from))
+pub ahead-is : (bytes : List ℕ) (from : ℕ) (a : Ahead) → read_ahead bytes from ≡ Some a
+    → (a.end ≡ end_from bytes from) × (end_from bytes from < length bytes) × (a.entry ≡ read_entry (rest_of bytes from))
 unfolding read_ahead
-ahead-is bytes from q =
+ahead-is bytes from a q =
     by-test (ltb (end_from bytes from) (length bytes))
     (λ t.
-    let r = found-is (read_entry (rest_of bytes from)).kind (end_from bytes from) (read_entry (rest_of bytes from)) (rw t at q) in
-    (rw t r.0, ltb-true (end_from bytes from) (length bytes) t, rw t r.1))
-    (λ t. clash (rw t at q) refl)
+    let r = found-is (read_entry (rest_of bytes from)).kind (end_from bytes from) (read_entry (rest_of bytes from)) a (rw t at q) in
+    (r.0, ltb-true (end_from bytes from) (length bytes) t, r.1))
+    (λ t. clash refl (ap is_none (rw t at q)))

@@ -1,7 +1,7 @@
 -- The steps of an `S` line as the reader takes it, number by number.
 -- Assumes nothing.
 use Prim.Native.Nat.{ℕ, zero, suc, ◌+◌, ◌-◌, ◌<◌, ◌≤◌}
-use Rattle.std.specs.Prelude.{◌≡◌, refl, Bool, true, false, ltb, ℤ, length, drop, set, get_or, replicate}
+use Rattle.std.specs.Prelude.{◌≡◌, refl, Bool, true, false, ltb, ℤ, length, drop, set, get_or, replicate, Option, Some, None}
 use Rattle.std.proofs.Common.{sym, ap, ◌∙◌, arith, lt-ltb, le-ltb, ltb-true, drop_of_length-le, drop-cons}
 use mathlib.Core.List.{List, [], ◌∷◌}
 use Rattle.std.proofs.Math.Numerals.{add-one}
@@ -9,11 +9,8 @@ use Rattle.laws.specs.Tests.{by-test, by-order, and-left}
 use Rattle.laws.specs.Each.{each_to}
 use Rattle.units.specs.declared.MilliVolts.{MilliVolts}
 use Rattle.sample.specs.Cells.{no_volts}
-use Rattle.text_numbers.specs.declared.Number.TheVariants.{Value, Malformed}
 use Rattle.text_numbers.specs.Numbers.{read_number}
 use Rattle.text_numbers.specs.Signs.{with_sign, has_minus, past_minus, minus-field, minus-signed, plain-signed}
-use Rattle.text_numbers.specs.declared.Signed.{Signed}
-use Rattle.text_numbers.specs.declared.Signed.TheVariants as signed
 use Rattle.text_fields.specs.Fields.{field_at}
 use Rattle.log_entries.specs.declared.Entry.{Entry}
 use Rattle.log_entries.specs.Entry.{malformed, offer, if_signed, cells_from, second_from, first_from, read_sample}
@@ -27,13 +24,13 @@ millivolts-set (x ∷ vs) zero v = refl
 millivolts-set (x ∷ vs) (suc k) v = ap (λ (l : List MilliVolts). record { 0 = x } ∷ l) (millivolts-set vs k v)
 
 -- What is said for any current.
-for-any : (s : Signed) (says : ℤ → Entry) → ((z : ℤ) → says z ≡ malformed) → if_signed s says ≡ malformed
-for-any (signed.Value z) says h = h z
-for-any signed.Malformed says h = refl
+for-any : (s : Option ℤ) (says : ℤ → Entry) → ((z : ℤ) → says z ≡ malformed) → if_signed s says ≡ malformed
+for-any (Some z) says h = h z
+for-any None says h = refl
 
-for-each : (s : Signed) (says does : ℤ → Entry) → ((z : ℤ) → says z ≡ does z) → if_signed s says ≡ if_signed s does
-for-each (signed.Value z) says does h = h z
-for-each signed.Malformed says does h = refl
+for-each : (s : Option ℤ) (says does : ℤ → Entry) → ((z : ℤ) → says z ≡ does z) → if_signed s says ≡ if_signed s does
+for-each (Some z) says does h = h z
+for-each None says does h = refl
 
 module _ (below : Bool) (f : List ℕ) (fs : List (List ℕ)) where
   pub behind-over : (k : ℕ) (numbers : List ℕ) → 13 ≤ k → behind below k numbers (f ∷ fs) ≡ malformed
@@ -43,7 +40,7 @@ module _ (below : Bool) (f : List ℕ) (fs : List (List ℕ)) where
   behind-over (suc (suc zero)) numbers h = absurd (omega arith)
   behind-over (suc (suc (suc k))) numbers h = for-any (with_sign below (get_or numbers 0 0)) (λ z. cells_from z (get_or numbers 1 0) (get_or numbers 2 0) k (cells_of numbers) (f ∷ fs)) (λ z. cell-over z _ _ k _ f fs (omega arith))
 
-  pub behind-none : (k : ℕ) (numbers : List ℕ) → k < 13 → read_number f ≡ Malformed → behind below k numbers (f ∷ fs) ≡ malformed
+  pub behind-none : (k : ℕ) (numbers : List ℕ) → k < 13 → read_number f ≡ None → behind below k numbers (f ∷ fs) ≡ malformed
   unfolding behind read_numbers first_from second_from
   behind-none zero numbers h e = rw e
   behind-none (suc zero) numbers h e = for-any (with_sign below (get_or numbers 0 0)) (λ z. first_from z (f ∷ fs)) (λ z. rw e)
@@ -51,7 +48,7 @@ module _ (below : Bool) (f : List ℕ) (fs : List (List ℕ)) where
   behind-none (suc (suc (suc k))) numbers h e = for-any (with_sign below (get_or numbers 0 0)) (λ z. cells_from z (get_or numbers 1 0) (get_or numbers 2 0) k (cells_of numbers) (f ∷ fs)) (λ z. cell-none z _ _ k _ f fs (omega arith) e)
 
   -- One number more, and no cell before the fourth.
-  pub behind-next : (k v : ℕ) (numbers : List ℕ) → k < 13 → length numbers ≡ 13 → NoCell k numbers → read_number f ≡ Value v
+  pub behind-next : (k v : ℕ) (numbers : List ℕ) → k < 13 → length numbers ≡ 13 → NoCell k numbers → read_number f ≡ Some v
       → (behind below k numbers (f ∷ fs) ≡ behind below (k + 1) (set numbers k v) fs) × NoCell (k + 1) (set numbers k v)
   unfolding behind read_numbers first_from second_from cells_of
   behind-next k v [] h l n e = absurd (omega arith)
@@ -97,7 +94,7 @@ sample-start line from =
     let there : from + length f + 1 ≡ from + 1 + length g + 1 = rw e (omega arith) in
     rw (t, lt-ltb from (from + 1) (omega arith))
     (ap read_sample (left-next line from f refl (omega arith))
-    ∙ ap (λ (s : Signed). if_signed s (λ current. first_from current (left line (from + length f + 1)))) (minus-signed line from t)
+    ∙ ap (λ (s : Option ℤ). if_signed s (λ current. first_from current (left line (from + length f + 1)))) (minus-signed line from t)
     ∙ ap (λ (j : ℕ). read_numbers true (g ∷ left line j)) there
     ∙ sym (ap (read_numbers true) (left-next line (from + 1) g refl (omega arith)))))
     (λ t.
@@ -107,7 +104,7 @@ sample-start line from =
     (λ h.
     let f = field_at line from in
     ap read_sample (left-next line from f refl h)
-    ∙ ap (λ (s : Signed). if_signed s (λ current. first_from current (left line (from + length f + 1)))) (plain-signed line from t)
+    ∙ ap (λ (s : Option ℤ). if_signed s (λ current. first_from current (left line (from + length f + 1)))) (plain-signed line from t)
     ∙ sym (ap (read_numbers false) (left-next line from f refl h)))))
 
 pub ten-cells : (ns : List ℕ) → length ns ≡ 13 → cells_to ns 10 (replicate 10 no_volts) ≡ cells_of ns

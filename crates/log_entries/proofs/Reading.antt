@@ -2,7 +2,7 @@
 -- answer; and the steps of the reader.
 -- Assumes nothing.
 use Prim.Native.Nat.{ℕ, zero, suc, ◌+◌, ◌*◌, ◌-◌, ◌<◌, ◌≤◌}
-use Rattle.std.specs.Prelude.{◌≡◌, Bool, true, false, cond, ◌⊎◌, ltb, eqb, ℤ, pos, negsuc, length, set, get_or, replicate}
+use Rattle.std.specs.Prelude.{◌≡◌, Bool, true, false, cond, ◌⊎◌, ltb, eqb, ℤ, pos, negsuc, length, set, get_or, replicate, Option, Some, None}
 use Rattle.std.proofs.Math.Path.{refl}
 use Rattle.std.proofs.Common.{sym, ap, ◌∙◌, ⊎_elim, add-one, lit≤, lt-ltb, le-ltb, eqb-true, leb-true, ne_eqb}
 use mathlib.Core.List.{List, [], ◌∷◌}
@@ -11,10 +11,6 @@ use native.Mathlib.Omega.{arith}
 use Rattle.laws.specs.Tests.{by-test, clash}
 use Rattle.units.specs.declared.MilliVolts.{MilliVolts}
 use Rattle.sample.specs.Cells.{no_volts}
-use Rattle.text_numbers.specs.declared.Number.{Number}
-use Rattle.text_numbers.specs.declared.Number.TheVariants.{Value, Malformed}
-use Rattle.text_numbers.specs.declared.Signed.{Signed}
-use Rattle.text_numbers.specs.declared.Signed.TheVariants as signed
 use Rattle.text_fields.specs.Finding.{lacks}
 use Rattle.text_fields.specs.Fields.{longer, fields_of, field_at}
 use Rattle.text_numbers.specs.Numbers.{read_number, read_signed, signed_text}
@@ -60,7 +56,7 @@ record Neat (most : ℕ) (f : List ℕ) : Type 0 where
   few : length f ≤ most
   none : lacks 13 f ≡ true
 
-neat-number : (f : List ℕ) (v : ℕ) → read_number f ≡ Value v → Neat 5 f
+neat-number : (f : List ℕ) (v : ℕ) → read_number f ≡ Some v → Neat 5 f
 neat-number f v e =
     let t = number-text 65535 f v e in
     rw t.0 (record { few = decimal-length 4 v (omega (arith, t.1)); none = decimal-lacks 13 (lit≤ tt) v })
@@ -76,7 +72,7 @@ neat-text (negsuc v) r =
     let l = decimal-length 4 (suc v) (omega arith) in
     record { few = omega arith; none = decimal-lacks 13 (lit≤ tt) (suc v) }
 
-neat-signed : (f : List ℕ) (z : ℤ) → read_signed f ≡ signed.Value z → Neat 6 f
+neat-signed : (f : List ℕ) (z : ℤ) → read_signed f ≡ Some z → Neat 6 f
 neat-signed f z e = let t = signed-text f z e in rw t.0 (neat-text z t.1)
 
 -- ---- fields are malformed, or they take few bytes and have no carriage return
@@ -92,9 +88,9 @@ fine-more most part f fs n r = record { small = omega (arith, n.few, r.small); n
 -- One number more in front.
 module _ (f : List ℕ) (fs : List (List ℕ)) (most : ℕ) (says : ℕ → Entry)
     (rest : (v : ℕ) → (says v ≡ malformed) ⊎ Fine most fs) where
-  number-fine : (n : Number) → read_number f ≡ n → (if_number n says ≡ malformed) ⊎ Fine (6 + most) (f ∷ fs)
-  number-fine Malformed e = inl refl
-  number-fine (Value v) e = ⊎_elim (λ z. inl z) (λ r. inr (fine-more most 5 f fs (neat-number f v e) r)) (rest v)
+  number-fine : (n : Option ℕ) → read_number f ≡ n → (if_number n says ≡ malformed) ⊎ Fine (6 + most) (f ∷ fs)
+  number-fine None e = inl refl
+  number-fine (Some v) e = ⊎_elim (λ z. inl z) (λ r. inr (fine-more most 5 f fs (neat-number f v e) r)) (rest v)
 
 module _ (current : ℤ) (t1 t2 : ℕ) where
   -- left: how many cells may still come
@@ -126,9 +122,9 @@ unfolding read_sample
 sample-fine [] = inl refl
 sample-fine (f ∷ fs) = by-value (read_signed f) refl
   where
-    by-value : (n : Signed) → read_signed f ≡ n → (if_signed n (λ current. first_from current fs) ≡ malformed) ⊎ Fine 79 (f ∷ fs)
-    by-value signed.Malformed e = inl refl
-    by-value (signed.Value z) e = ⊎_elim (λ q. inl q) (λ r. inr (fine-more 72 6 f fs (neat-signed f z e) r)) (first-fine z fs)
+    by-value : (n : Option ℤ) → read_signed f ≡ n → (if_signed n (λ current. first_from current fs) ≡ malformed) ⊎ Fine 79 (f ∷ fs)
+    by-value None e = inl refl
+    by-value (Some z) e = ⊎_elim (λ q. inl q) (λ r. inr (fine-more 72 6 f fs (neat-signed f z e) r)) (first-fine z fs)
 
 command-fine : (fs : List (List ℕ)) → (read_command fs ≡ malformed) ⊎ Fine 79 fs
 unfolding read_command spread clean
@@ -240,7 +236,7 @@ command-over line at f e h l =
     ap read_command (left-next line at f e h ∙ ap (λ (fs : List (List ℕ)). f ∷ fs) (left-next line (at + length f + 1) _ refl k))
 
 -- The only field is a number.
-pub command-read : (f : List ℕ) (v : ℕ) → read_number f ≡ Value v → read_command (f ∷ []) ≡ command v
+pub command-read : (f : List ℕ) (v : ℕ) → read_number f ≡ Some v → read_command (f ∷ []) ≡ command v
 unfolding read_command
 command-read f v e = rw e
 
@@ -250,11 +246,11 @@ module _ (current : ℤ) (t1 t2 k : ℕ) (cells : List MilliVolts) (f : List ℕ
   unfolding cells_from
   cell-over h = rw (le-ltb k 10 h)
 
-  pub cell-none : k < 10 → read_number f ≡ Malformed → cells_from current t1 t2 k cells (f ∷ fs) ≡ malformed
+  pub cell-none : k < 10 → read_number f ≡ None → cells_from current t1 t2 k cells (f ∷ fs) ≡ malformed
   unfolding cells_from
   cell-none h e = rw (lt-ltb k 10 h, e)
 
-  pub cell-next : (v : ℕ) → k < 10 → read_number f ≡ Value v
+  pub cell-next : (v : ℕ) → k < 10 → read_number f ≡ Some v
       → cells_from current t1 t2 k cells (f ∷ fs) ≡ cells_from current t1 t2 (k + 1) (set cells k (record { 0 = v })) fs
   unfolding cells_from
   cell-next v h e = rw (lt-ltb k 10 h, e, add-one)

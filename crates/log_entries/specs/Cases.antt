@@ -1,6 +1,6 @@
 -- Worked lines, computed: what a reader can check by eye.
 -- Assumes nothing.
-use Rattle.std.specs.Prelude.{ℕ, ◌≡◌, refl, true, false, List, [], ◌∷◌, pos, negsuc, length, replicate}
+use Rattle.std.specs.Prelude.{ℕ, ◌≡◌, refl, true, false, List, [], ◌∷◌, pos, negsuc, length, replicate, Some, None}
 use Rattle.text_fields.specs.Quoted.{quoted}
 use Rattle.units.specs.declared.MilliVolts.{MilliVolts}
 use Rattle.sample.specs.Cells.{no_volts}
@@ -14,7 +14,7 @@ use Rattle.log_entries.specs.Left.{left}
 use Rattle.log_entries.specs.InTurn.{cells_of, read_numbers}
 use Rattle.text_numbers.specs.Signs.{with_sign}
 use Rattle.text_fields.specs.Finding.{before}
-use Rattle.log_entries.specs.Ahead.{nothing, found, rest_of, end_from, found_as, read_ahead}
+use Rattle.log_entries.specs.Ahead.{found, rest_of, end_from, found_as, read_ahead}
 
 abbrev mv : ℕ → MilliVolts
 mv v = record { 0 = v }
@@ -134,7 +134,7 @@ abbrev three : List ℕ
 three = quoted "F\t3\nS\t-7\t2981\t2992\t3001\nS\t1\t2\t3"
 
 pub read-along : (read_ahead three 4 ≡ found 23 (offer (negsuc 6) 2981 2992 1 (mv 3001 ∷ zeros 9)))
-    × (read_ahead three 0 ≡ nothing) × (read_ahead three 24 ≡ nothing) × (read_ahead three 34 ≡ nothing)
+    × (read_ahead three 0 ≡ None) × (read_ahead three 24 ≡ None) × (read_ahead three 34 ≡ None)
 unfolding read_ahead before read_entry fields_say read_sample first_from second_from cells_from read_command lacks fields_of number_to digits_to read_signed
 read-along = (refl, refl, refl, refl)
 
@@ -143,7 +143,7 @@ unfolding before
 rests = (refl, refl, refl)
 
 -- every field of what is found
-pub found-fields : (found_as 9 (offer (pos 1) 2 3 0 (zeros 10)) ≡ record { found = true; end = 9; entry = offer (pos 1) 2 3 0 (zeros 10) })
-    × (found_as 9 (command 3) ≡ record { found = false; end = 0; entry = malformed })
-    × (found_as 9 malformed ≡ record { found = false; end = 0; entry = malformed })
+pub found-fields : (found_as 9 (offer (pos 1) 2 3 0 (zeros 10)) ≡ Some (record { end = 9; entry = offer (pos 1) 2 3 0 (zeros 10) }))
+    × (found_as 9 (command 3) ≡ None)
+    × (found_as 9 malformed ≡ None)
 found-fields = (refl, refl, refl)

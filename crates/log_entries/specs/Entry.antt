@@ -1,13 +1,9 @@
 -- What a line of the log says, by its bytes: document 01, "The replay program". A line without its newline is a list of bytes.
 -- Assumes nothing.
-use Rattle.std.specs.Prelude.{ℕ, suc, Bool, false, cond, List, [], ◌∷◌, ltb, eqb, ℤ, length, set, replicate}
+use Rattle.std.specs.Prelude.{ℕ, suc, Bool, false, cond, List, [], ◌∷◌, ltb, eqb, ℤ, length, set, replicate, Option, Some, None}
 use Rattle.units.specs.declared.MilliVolts.{MilliVolts}
 use Rattle.sample.specs.Cells.{no_volts}
 use Rattle.sample.specs.None.{no_sample}
-use Rattle.text_numbers.specs.declared.Number.{Number}
-use Rattle.text_numbers.specs.declared.Number.TheVariants as number
-use Rattle.text_numbers.specs.declared.Signed.{Signed}
-use Rattle.text_numbers.specs.declared.Signed.TheVariants as signed
 use Rattle.text_fields.specs.Finding.{lacks}
 use Rattle.text_fields.specs.Fields.{fields_of}
 use Rattle.text_numbers.specs.Numbers.{read_number, read_signed}
@@ -35,14 +31,14 @@ offer current t1 t2 count cells =
 -- ---- fields
 
 -- "A field that isn't such a number or is outside its range .. is malformed": every field but the current is 0..65535.
-abbrev pub if_number : Number → (ℕ → Entry) → Entry
-if_number (number.Value v) says = says v
-if_number number.Malformed says = malformed
+abbrev pub if_number : Option ℕ → (ℕ → Entry) → Entry
+if_number (Some v) says = says v
+if_number None says = malformed
 
 -- "Only the current may have a minus": it is -32768..32767.
-abbrev pub if_signed : Signed → (ℤ → Entry) → Entry
-if_signed (signed.Value z) says = says z
-if_signed signed.Malformed says = malformed
+abbrev pub if_signed : Option ℤ → (ℤ → Entry) → Entry
+if_signed (Some z) says = says z
+if_signed None says = malformed
 
 -- "`F` has the command", and any other count of fields is malformed.
 unfoldable pub read_command : List (List ℕ) → Entry

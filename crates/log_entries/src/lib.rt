@@ -7,11 +7,11 @@ ghost use Rattle.text_fields.specs.Fields.{fields_of};
 ghost use Rattle.log_entries.specs.Entry.{malformed, offer, read_command, read_sample, read_entry};
 ghost use Rattle.log_entries.specs.Left.{left};
 ghost use Rattle.log_entries.specs.InTurn.{cells_of, read_numbers, behind};
-ghost use Rattle.log_entries.specs.Ahead.{rest_of, end_from, nothing, found_as, found_in, read_ahead, starts_sample};
+ghost use Rattle.log_entries.specs.Ahead.{rest_of, end_from, found_as, found_in, read_ahead, starts_sample};
 
 use sample::{Sample, no_sample};
 use text_number_at::{FieldNumber, four_tabbed, number_along, number_at};
-use text_numbers::{Number, Signed, past_minus, with_sign};
+use text_numbers::{past_minus, with_sign};
 use units::{DeciKelvin, MilliVolts};
 
 // What kind of line it is.
@@ -34,11 +34,10 @@ pub struct Entry {
 fn no_entry() -> Entry
     ensures { result ≡ malformed }
 {
-    let sample = no_sample();
     Entry {
         kind: Kind::Malformed,
         command: 0,
-        sample: sample,
+        sample: no_sample(),
     }
 }
 
@@ -54,14 +53,13 @@ fn read_command(line: &[u8], at: usize) -> Entry
     if f.len() < n - at {
         return no_entry();
     }
-    let Number::Value(c) = text_numbers::read_number(f) else {
+    let Some(command) = text_numbers::read_number(f) else {
         return no_entry();
     };
-    let sample = no_sample();
     Entry {
         kind: Kind::Command,
-        command: c,
-        sample: sample,
+        command,
+        sample: no_sample(),
     }
 }
 
@@ -70,18 +68,16 @@ fn offered(current: i16, numbers: [u16; 13], count: u8) -> Entry
     ensures { result ≡ offer current (get_or numbers 1 0) (get_or numbers 2 0) count (cells_of numbers) }
 {
     let mut cells = [MilliVolts(0); 10];
-    let mut i: usize = 0;
-    while i < 10 {
+    for i in 0..10 {
         cells[i] = MilliVolts(numbers[i + 3]);
-        i += 1;
     }
     Entry {
         kind: Kind::Offer,
         command: 0,
         sample: Sample {
-            count: count,
-            cells: cells,
-            current: current,
+            count,
+            cells,
+            current,
             t1: DeciKelvin(numbers[1]),
             t2: DeciKelvin(numbers[2]),
         },
@@ -100,8 +96,7 @@ fn read_numbers(line: &[u8], from: usize, below: bool) -> Entry
         if 13 <= count {
             return no_entry();
         }
-        let n = number_at(line, at);
-        let FieldNumber::Value { number, end } = n else {
+        let Some(FieldNumber { number, end }) = number_at(line, at) else {
             return no_entry();
         };
         numbers[count] = number;
@@ -111,8 +106,7 @@ fn read_numbers(line: &[u8], from: usize, below: bool) -> Entry
     if count < 3 {
         return no_entry();
     }
-    let c = with_sign(below, numbers[0]);
-    let Signed::Value(current) = c else {
+    let Some(current) = with_sign(below, numbers[0]) else {
         return no_entry();
     };
     offered(current, numbers, (count - 3) as u8)
@@ -150,48 +144,28 @@ pub fn read_entry(line: &[u8]) -> Entry
     no_entry()
 }
 
-// A line read along, before its newline was looked for: whether one was found, the place of its newline, and what it says. Where none was
-// found, they are 0 and a malformed line.
+// An `S` line that was read along: its newline stands at `end`, and `entry` is what it says.
 #[derive(Clone, Copy)]
 pub struct Ahead {
-    pub found: bool,
     pub end: usize,
     pub entry: Entry,
 }
 
-fn nothing_found() -> Ahead
-    ensures { result ≡ nothing }
-{
-    let e = no_entry();
-    Ahead {
-        found: false,
-        end: 0,
-        entry: e,
-    }
-}
-
 // The line up to `end` has these numbers, and no more.
-fn all_read(below: bool, numbers: [u16; 13], count: usize, end: usize) -> Ahead
+fn all_read(below: bool, numbers: [u16; 13], count: usize, end: usize) -> Option<Ahead>
     requires { count ≤ 13 }
     ensures { result ≡ found_as end (behind below count numbers []) }
 {
     if count < 3 {
-        return nothing_found();
+        return None;
     }
-    let c = with_sign(below, numbers[0]);
-    let Signed::Value(current) = c else {
-        return nothing_found();
-    };
-    let e = offered(current, numbers, (count - 3) as u8);
-    Ahead {
-        found: true,
-        end: end,
-        entry: e,
-    }
+    let current = with_sign(below, numbers[0])?;
+    let entry = offered(current, numbers, (count - 3) as u8);
+    Some(Ahead { end, entry })
 }
 
 // The numbers of an `S` line from `from` on, up to its newline. Most have four digits and a tab behind them, which is asked first.
-fn numbers_ahead(bytes: &[u8], from: usize, below: bool) -> Ahead
+fn numbers_ahead(bytes: &[u8], from: usize, below: bool) -> Option<Ahead>
     ensures { result ≡ found_in bytes.now (end_from bytes.now from) (read_numbers below (fields_of (rest_of bytes.now from))) }
 {
     let mut numbers: [u16; 13] = [0; 13];
@@ -199,19 +173,15 @@ fn numbers_ahead(bytes: &[u8], from: usize, below: bool) -> Ahead
     let mut at = from;
     loop {
         if 13 <= count {
-            return nothing_found();
+            return None;
         }
-        let f = four_tabbed(bytes, at);
-        if f.spelt {
-            numbers[count] = f.number;
+        if let Some(number) = four_tabbed(bytes, at) {
+            numbers[count] = number;
             count += 1;
             at += 5;
             continue;
         }
-        let n = number_along(bytes, at);
-        let FieldNumber::Value { number, end } = n else {
-            return nothing_found();
-        };
+        let FieldNumber { number, end } = number_along(bytes, at)?;
         numbers[count] = number;
         count += 1;
         if bytes[end] == b'\n' {
@@ -230,19 +200,19 @@ fn starts_sample(bytes: &[u8], from: usize) -> bool
 }
 
 // An `S` line that starts at `from`, read along up to its newline; nothing where the line does not end, or is no such line.
-pub fn read_ahead(bytes: &[u8], from: usize) -> Ahead
+pub fn read_ahead(bytes: &[u8], from: usize) -> Option<Ahead>
     ensures { result ≡ read_ahead bytes.now from }
 {
     let n = bytes.len();
     if n < from {
-        return nothing_found();
+        return None;
     }
     if n - from < 2 {
-        return nothing_found();
+        return None;
     }
     if starts_sample(bytes, from) {
         let start = past_minus(bytes, from + 2);
         return numbers_ahead(bytes, start, from + 2 < start);
     }
-    nothing_found()
+    None
 }

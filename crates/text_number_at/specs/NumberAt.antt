@@ -1,5 +1,5 @@
 -- The field at a place of a line as a number, with the place where it ends; and the quick way for a field of four digits, which most are.
-use Rattle.std.specs.Prelude.{is_some, Option, Some, None, ℕ, suc, ◌+◌, ◌*◌, ◌-◌, ◌<◌, ◌≤◌, ◌≡◌, refl, Bool, true, false, ◌&&◌, ◌||◌, List, [], ◌∷◌, ◌++◌, leb, eqb, length, drop, get_or}
+use Rattle.std.specs.Prelude.{is_some, Option, Some, None, ℕ, suc, ◌+◌, ◌*◌, ◌-◌, ◌<◌, ◌≤◌, ◌≡◌, refl, Bool, true, ◌&&◌, ◌||◌, List, [], ◌∷◌, ◌++◌, leb, eqb, length, drop, get_or}
 use Rattle.std.proofs.Common.{sym, ap, ◌∙◌, ⊎_elim, arith, lit≤, drop_of_length-le, drop-cons, le-ltb, leb-true, eqb-true, ne_eqb}
 use Rattle.laws.specs.Tests.{by-order, clash, and-left, and-right, or-cases}
 use Rattle.text_fields.specs.Finding.{before, lacks, before-at, before-none}

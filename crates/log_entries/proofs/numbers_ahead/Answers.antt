@@ -15,69 +15,69 @@ pub returns-then-count-ge13 : goal.returns-then-count-ge13
 unfolding behind
 returns-then-count-ge13 c = let l = c.loop-count in
     let a = c.args in
-    c.nothing_found.ensures ∙ ahead-over a.bytes.now l.at a.below l.count l.numbers c.if-count-ge13.true ∙ l.invariant.3
+    ahead-over a.bytes.now l.at a.below l.count l.numbers c.if-count-ge13.true ∙ l.invariant.3
 
 pub overflow_add-at : goal.overflow_add-at
 overflow_add-at c = let l = c.loop-count in
     let a = c.args in
-    omega (arith, tabbed-within a.bytes.now l.at _ c.four_tabbed-f.ensures c.if-f.true)
+    omega (arith, tabbed-within a.bytes.now l.at _ (sym c.in-Some.ensures))
 
-pub loop-count-smaller-then-f : goal.loop-count-smaller-then-f
-loop-count-smaller-then-f c = let l = c.loop-count in
+pub loop-count-smaller-in-Some : goal.loop-count-smaller-in-Some
+loop-count-smaller-in-Some c = let l = c.loop-count in
     let a = c.args in
-    omega (arith, tabbed-within a.bytes.now l.at _ c.four_tabbed-f.ensures c.if-f.true)
+    omega (arith, tabbed-within a.bytes.now l.at _ (sym c.in-Some.ensures))
 
-pub loop-count-preserved-then-f : goal.loop-count-preserved-then-f
-loop-count-preserved-then-f c = let l = c.loop-count in
+pub loop-count-preserved-in-Some : goal.loop-count-preserved-in-Some
+loop-count-preserved-in-Some c = let l = c.loop-count in
     let a = c.args in
     let q =
     ahead-four a.bytes.now l.at a.below l.count l.numbers (omega arith) l.invariant.1 l.invariant.2
-    (λ i. (c.type_inv.bytes i).fits) _ c.four_tabbed-f.ensures c.if-f.true in
+    (λ i. (c.type_inv.bytes i).fits) _ (sym c.in-Some.ensures) in
     (omega arith, rw length-set l.invariant.1, q.1, q.0 ∙ l.invariant.3)
 
-pub returns-in_default : goal.returns-in_default
+pub returns-in_err-number : goal.returns-in_err-number
 unfolding behind
-returns-in_default c = let l = c.loop-count in
+returns-in_err-number c = let l = c.loop-count in
     let a = c.args in
-    c.nothing_found-in_default.ensures
-    ∙ ahead-none a.bytes.now l.at a.below l.count l.numbers (omega arith) (sym c.number_along-n.ensures ∙ c.in_default.is)
+    c.from_residual.ensures
+    ∙ ahead-none a.bytes.now l.at a.below l.count l.numbers (omega arith) (sym c.in_err-number.ensures)
     ∙ l.invariant.3
 
 pub bounds-bytes-end : goal.bounds-bytes-end
-bounds-bytes-end c = let n = c.in-Value in
+bounds-bytes-end c = let n = c.in_ok-number in
     let l = c.loop-count in
     let a = c.args in
-    (along-value a.bytes.now l.at n.number n.end (sym c.number_along-n.ensures ∙ n.is)).2
+    (along-value a.bytes.now l.at n.field-0.number n.field-0.end (sym n.ensures)).2
 
 pub returns-then-bytes-end-eq10 : goal.returns-then-bytes-end-eq10
 unfolding behind
-returns-then-bytes-end-eq10 c = let n = c.in-Value in
+returns-then-bytes-end-eq10 c = let n = c.in_ok-number in
     let l = c.loop-count in
     let a = c.args in
     c.all_read.ensures
-    ∙ ahead-last a.bytes.now l.at a.below l.count l.numbers n.number n.end (omega arith) l.invariant.1 l.invariant.2
-    (sym c.number_along-n.ensures ∙ n.is) c.if-bytes-end-eq10.true
+    ∙ ahead-last a.bytes.now l.at a.below l.count l.numbers n.field-0.number n.field-0.end (omega arith) l.invariant.1 l.invariant.2
+    (sym n.ensures) c.if-bytes-end-eq10.true
     ∙ l.invariant.3
 
 pub overflow_add-at-in-loop-count : goal.overflow_add-at-in-loop-count
-overflow_add-at-in-loop-count c = let n = c.in-Value in
+overflow_add-at-in-loop-count c = let n = c.in_ok-number in
     let l = c.loop-count in
     let a = c.args in
-    let q = along-value a.bytes.now l.at n.number n.end (sym c.number_along-n.ensures ∙ n.is) in
+    let q = along-value a.bytes.now l.at n.field-0.number n.field-0.end (sym n.ensures) in
     omega (arith, q.2)
 
 pub loop-count-smaller : goal.loop-count-smaller
-loop-count-smaller c = let n = c.in-Value in
+loop-count-smaller c = let n = c.in_ok-number in
     let l = c.loop-count in
     let a = c.args in
-    let q = along-value a.bytes.now l.at n.number n.end (sym c.number_along-n.ensures ∙ n.is) in
+    let q = along-value a.bytes.now l.at n.field-0.number n.field-0.end (sym n.ensures) in
     omega (arith, q.1, q.2)
 
 pub loop-count-preserved : goal.loop-count-preserved
-loop-count-preserved c = let n = c.in-Value in
+loop-count-preserved c = let n = c.in_ok-number in
     let l = c.loop-count in
     let a = c.args in
     let q =
-    ahead-next a.bytes.now l.at a.below l.count l.numbers n.number n.end (omega arith) l.invariant.1 l.invariant.2
-    (sym c.number_along-n.ensures ∙ n.is) c.if-bytes-end-eq10.false in
+    ahead-next a.bytes.now l.at a.below l.count l.numbers n.field-0.number n.field-0.end (omega arith) l.invariant.1 l.invariant.2
+    (sym n.ensures) c.if-bytes-end-eq10.false in
     (omega arith, rw length-set l.invariant.1, q.1, q.0 ∙ l.invariant.3)

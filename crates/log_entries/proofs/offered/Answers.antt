@@ -13,15 +13,15 @@ use Rattle.log_entries.proofs.offered.Goals as goal
 
 pub loop-i-init : goal.loop-i-init
 unfolding each_to
-loop-i-init c = (omega arith, refl)
+loop-i-init c = refl
 
 pub loop-i-preserved : goal.loop-i-preserved
 loop-i-preserved c = let l = c.loop-i in
-    (omega arith, each-next _ _ l.i _ _ _ l.invariant.1 refl)
+    each-next _ _ l.i _ _ _ l.invariant refl
 
 pub returns : goal.returns
 returns c = let l = c.loop-i in
     let e : l.i ≡ 10 = omega arith in
     let a = c.args in
     rw (to_z-of_z c.ranges.current)
-    (ap (λ (cells : List MilliVolts). offer a.current (get_or a.numbers 1 0) (get_or a.numbers 2 0) a.count cells) (rw e at l.invariant.1 ∙ ten-cells a.numbers (let n : length a.numbers ≡ 13 = search rules in n)))
+    (ap (λ (cells : List MilliVolts). offer a.current (get_or a.numbers 1 0) (get_or a.numbers 2 0) a.count cells) (rw e at l.invariant ∙ ten-cells a.numbers (let n : length a.numbers ≡ 13 = search rules in n)))

@@ -1,13 +1,9 @@
 -- `log_entries::offered` meets its contract. The loop's invariant: the first i cells are the numbers behind the two temperatures. Assumes nothing.
 use mathlib.Core.Path.{◌≡◌}
-use Prim.Native.Nat.{◌≤◌, ◌-◌}
 use lib.ListN.{replicate}
 use Rattle.sample.specs.Cells.{no_volts}
 use Rattle.log_entries.specs.InTurn.{cells_to}
 use Rattle.log_entries.proofs.offered.Given as goal
 
 abbrev pub invariant-loop-i : goal.invariant-loop-i
-invariant-loop-i l = (l.i ≤ 10) × (l.cells ≡ cells_to l.numbers l.i (replicate 10 no_volts))
-
-abbrev pub decreases-loop-i : goal.decreases-loop-i
-decreases-loop-i l = 10 - l.i
+invariant-loop-i l = l.cells ≡ cells_to l.numbers l.i (replicate 10 no_volts)

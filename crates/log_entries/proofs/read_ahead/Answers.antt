@@ -7,11 +7,11 @@ use Rattle.log_entries.proofs.read_ahead.Goals as goal
 
 pub returns-then-n-from : goal.returns-then-n-from
 returns-then-n-from c = let a = c.args in
-    c.nothing_found.ensures ∙ start-short a.bytes.now a.from (omega arith)
+    start-short a.bytes.now a.from (omega arith)
 
 pub returns-then-n-from-lt2 : goal.returns-then-n-from-lt2
 returns-then-n-from-lt2 c = let a = c.args in
-    c.nothing_found-then-n-from-lt2.ensures ∙ start-short a.bytes.now a.from (omega arith)
+    start-short a.bytes.now a.from (omega arith)
 
 pub returns-then-starts_sample : goal.returns-then-starts_sample
 returns-then-starts_sample c = let a = c.args in
@@ -21,4 +21,4 @@ returns-then-starts_sample c = let a = c.args in
 
 pub returns : goal.returns
 returns c = let a = c.args in
-    c.nothing_found-2.ensures ∙ start-not a.bytes.now a.from (omega arith) (sym c.starts_sample.ensures ∙ c.if-starts_sample.false)
+    start-not a.bytes.now a.from (omega arith) (sym c.starts_sample.ensures ∙ c.if-starts_sample.false)

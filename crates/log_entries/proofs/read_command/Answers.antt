@@ -19,4 +19,4 @@ unfolding read_command
 returns-in_default c = c.no_entry-in_default.ensures ∙ sym (ap read_command (left-only _ _ _ c.field-f.ensures.result_value (omega arith) (omega arith)) ∙ rw (sym c.read_number.ensures ∙ c.in_default.is))
 
 pub returns : goal.returns
-returns c = sym (ap read_command (left-only _ _ _ c.field-f.ensures.result_value (omega arith) (omega arith)) ∙ command-read _ _ (sym c.read_number.ensures ∙ c.in-Value.is) ∙ sym cc)
+returns c = sym (ap read_command (left-only _ _ _ c.field-f.ensures.result_value (omega arith) (omega arith)) ∙ command-read _ _ (sym c.read_number.ensures ∙ c.in-Some.is) ∙ sym cc)

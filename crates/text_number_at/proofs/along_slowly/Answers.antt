@@ -1,5 +1,5 @@
 -- `along_slowly` meets its contract: the end of the field is found, and then the field is read.
-use mathlib.Core.Path.{sym, ap, ◌∙◌}
+use mathlib.Core.Path.{ap, ◌∙◌}
 use native.Mathlib.Omega.{arith}
 use Rattle.text_numbers.specs.Numbers.{read_number}
 use Rattle.text_number_at.specs.Along.{along-part, along-open, along-read}

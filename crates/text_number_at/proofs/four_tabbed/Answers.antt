@@ -17,6 +17,6 @@ pub returns : goal.returns
 unfolding four_tabbed
 returns c = let a = c.args in
     elim c.else-from-saturating_sub.branch [
-        else-from-saturating_sub-via-then-from-saturating_sub+else-bytes-from-eq9 w ↦ rw (lt-ltb a.from (length a.bytes.now - 4) (omega arith), ne_eqb (get_or a.bytes.now (a.from + 4) 0) 9 w.if-bytes-from-eq9.false)
+      | else-from-saturating_sub-via-then-from-saturating_sub+else-bytes-from-eq9 w ↦ rw (lt-ltb a.from (length a.bytes.now - 4) (omega arith), ne_eqb (get_or a.bytes.now (a.from + 4) 0) 9 w.if-bytes-from-eq9.false)
       | else-from-saturating_sub-via-else-from-saturating_sub w ↦ rw (le-ltb a.from (length a.bytes.now - 4) (omega arith))
     ]
