@@ -14,7 +14,7 @@ use Rattle.page_judge.specs.Page.{refusals, judged}
 use Rattle.page_judge.specs.Worked.{worked_page, put, page_with}
 use Rattle.sheet_names.specs.Names.{name_at, line_text, prefix_at}
 use Rattle.sheet_write.specs.Sheet.{value_at, lines_text, sheet_text, sheet_of, wrote_text, text_in, wrote_for, sheet_in}
-use Rattle.sheet_write.specs.declared.Wrote.TheVariants.{Text, Refused}
+use Rattle.sheet_write.specs.Wrote.{Text, Refused}
 
 abbrev worked : List ℕ
 worked = sheet_of worked_page

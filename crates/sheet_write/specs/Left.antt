@@ -1,15 +1,15 @@
 -- What a call of the writer leaves in its buffer, by its answer alone.
 -- Assumes nothing.
 use Rattle.std.proofs.Math.Path.{◌≡◌}
-use Rattle.std.specs.Prelude.{refl, List, ◌++◌, ℕ, ltb}
+use Rattle.std.specs.Prelude.{refl, Ok, Err, List, ◌++◌, ℕ, ltb}
 use Rattle.std.proofs.Common.{sym, ap, arith}
 use Rattle.std.proofs.Math.ListN.{length, drop}
 use Rattle.laws.specs.Tests.{by-test}
 use Rattle.page_judge.specs.Page.{judged}
-use Rattle.refusals.specs.declared.Verdict.{Verdict}
-use Rattle.refusals.specs.declared.Verdict.TheVariants as verdict
+use Rattle.refusals.specs.Verdicts.{Verdict}
+use Rattle.refusals.specs.Verdicts as verdict
 use Rattle.sheet_write.specs.Sheet.{sheet_of, wrote_text, text_in, wrote_for, sheet_in}
-use Rattle.sheet_write.specs.declared.Wrote.TheVariants.{Text, Refused}
+use Rattle.sheet_write.specs.Wrote.{Text, Refused}
 
 -- ---- any text
 
@@ -35,8 +35,8 @@ module _ (s d : List ℕ) where
 
 kept-by : (v : Verdict) (b d : List ℕ) (k w : ℕ) → v ≡ judged b → wrote_for b (length d) ≡ Refused k w → sheet_in b d ≡ d
 unfolding wrote_for sheet_in
-kept-by verdict.Accepted b d k w e q = rw (← e) (text-kept (sheet_of b) d k w (rw (← e) at q))
-kept-by (verdict.Refused j x) b d k w e q = rw (← e)
+kept-by (Ok tt) b d k w e q = rw (← e) (text-kept (sheet_of b) d k w (rw (← e) at q))
+kept-by (Err r) b d k w e q = rw (← e)
 
 -- What the writer has done where it answers that the sheet has n bytes.
 pub record Done (b d : List ℕ) (n : ℕ) : Type 0 where
@@ -46,11 +46,11 @@ pub record Done (b d : List ℕ) (n : ℕ) : Type 0 where
 
 put-by : (v : Verdict) (b d : List ℕ) (n : ℕ) → v ≡ judged b → wrote_for b (length d) ≡ Text n → Done b d n
 unfolding wrote_for sheet_in
-put-by verdict.Accepted b d n e q =
+put-by (Ok tt) b d n e q =
     let p = text-put (sheet_of b) d n (rw (← e) at q) in
     record { accepted = sym e; size = p.0; bytes = rw (← e) p.1 }
-put-by (verdict.Refused j x) b d n e q =
-    let f : Refused j x ≡ Text n = rw (← e) at q in let z : ◌≡◌ {A = ℕ} 0 1 = cc in absurd (omega arith)
+put-by (Err r) b d n e q =
+    let f : Refused r.number r.word ≡ Text n = rw (← e) at q in let z : ◌≡◌ {A = ℕ} 0 1 = cc in absurd (omega arith)
 
 -- "Left untouched": whatever the refusal, the buffer is as it was.
 pub refused-kept : (b d : List ℕ) (k w : ℕ) → wrote_for b (length d) ≡ Refused k w → sheet_in b d ≡ d

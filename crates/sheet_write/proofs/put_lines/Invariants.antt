@@ -1,6 +1,5 @@
 -- `sheet_write::put_lines` meets its contract. The loop keeps: the first i lines stand in the buffer. Assumes nothing.
-use mathlib.Core.Path.{◌≡◌}
-use Prim.Native.Nat.{◌+◌, ◌-◌, ◌≤◌}
+use Prim.Native.Nat.{◌≤◌}
 use lib.ListN.{length}
 use Rattle.sheet_names.specs.Names.{layout_for}
 use Rattle.sheet_write.specs.Sheet.{room}
@@ -8,7 +7,4 @@ use Rattle.sheet_write.specs.Lines.{Putting}
 use Rattle.sheet_write.proofs.put_lines.Given as goal
 
 abbrev pub invariant-loop-i : goal.invariant-loop-i
-invariant-loop-i l = Putting l.initial.out (layout_for l.long) l.page l.at l.i l.out × (l.i ≤ l.lines) × (l.lines ≡ (layout_for l.long).last + 1) × (room ≤ length l.initial.out) × (length l.out ≡ length l.initial.out)
-
-abbrev pub decreases-loop-i : goal.decreases-loop-i
-decreases-loop-i l = l.lines - l.i
+invariant-loop-i l = Putting l.initial.out (layout_for l.long) l.page l.at l.i l.out × (room ≤ length l.initial.out)
