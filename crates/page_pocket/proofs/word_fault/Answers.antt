@@ -1,23 +1,26 @@
--- `page_pocket::word_fault` meets its contract
+-- `page_pocket::word_fault` meets its contract. Assumes nothing.
 use mathlib.Core.Path.{◌≡◌, refl, sym, ap, ◌∙◌}
 use Prim.Native.Nat.{◌+◌, ◌-◌}
-use Rattle.page_pocket.specs.Pocket.{word_fault, fault_from, met-at, fault-on, fault-refuses, fault-ends}
 use native.Mathlib.Omega.{arith}
+use Rattle.page_pocket.specs.Pocket.{word_fault, fault_from, met-at, fault-on, fault-refuses, fault-ends}
 use Rattle.page_pocket.proofs.word_fault.Goals as goal
 
-pub loop-i-init : goal.loop-i-init
+pub loop-word-init : goal.loop-word-init
 unfolding word_fault
-loop-i-init c = (omega arith, refl)
+loop-word-init c = refl
 
-pub loop-i-preserved : goal.loop-i-preserved
-loop-i-preserved c = let l = c.loop-i in
-    let less : 11 - l.i - 1 ≡ 11 - (l.i + 1) = omega arith in
-    (omega arith, l.invariant.1 ∙ fault-on _ l.i (11 - l.i) (omega arith) (met-at _ l.i _ _ _ c.wide.ensures.0 c.word_at-x.ensures c.fits.ensures ∙ c.if-fits.true) ∙ ap (fault_from _ (l.i + 1)) less)
+pub loop-word-preserved : goal.loop-word-preserved
+loop-word-preserved c = let i = c.loop-word.word-index in
+    let less : 11 - i - 1 ≡ 11 - (i + 1) = omega arith in
+    c.loop-word.invariant
+    ∙ fault-on _ i (11 - i) (omega arith) (met-at _ i _ _ _ c.from.ensures c.word_at.ensures c.fits.ensures ∙ c.if-not-fits.false)
+    ∙ ap (fault_from _ (i + 1)) less
 
-pub returns-else-fits : goal.returns-else-fits
-returns-else-fits c = let l = c.loop-i in
-    sym (l.invariant.1 ∙ fault-refuses _ l.i (11 - l.i) (omega arith)
-    (met-at _ l.i _ _ _ c.wide.ensures.0 c.word_at-x.ensures c.fits.ensures ∙ c.if-fits.false))
+pub returns-then-not-fits : goal.returns-then-not-fits
+returns-then-not-fits c = let i = c.loop-word.word-index in
+    sym
+    (c.loop-word.invariant
+    ∙ fault-refuses _ i (11 - i) (omega arith) (met-at _ i _ _ _ c.from.ensures c.word_at.ensures c.fits.ensures ∙ c.if-not-fits.true))
 
 pub returns : goal.returns
-returns c = sym (c.loop-i.invariant.1 ∙ fault-ends _ c.loop-i.i (11 - c.loop-i.i) (omega arith))
+returns c = sym (c.loop-word.invariant ∙ fault-ends _ _ _ (omega arith))
