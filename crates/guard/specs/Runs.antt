@@ -1,7 +1,7 @@
 -- The run rule of document 01, "The eight protections", once for any two tests of a sample that are never both true.
 -- A history is the list of accepted samples since the load, the latest first.
 -- Assumes nothing.
-use Rattle.std.specs.Prelude.{◌≡◌, refl, Bool, true, false, not, cond, List, [], ◌∷◌, ℕ, ◌≤◌, ◌<◌, leb}
+use Rattle.std.specs.Prelude.{◌≡◌, refl, Bool, true, false, not, cond, Option, None, Some, List, [], ◌∷◌, ℕ, ◌≤◌, ◌<◌, leb}
 use Rattle.std.proofs.Common.{arith, le-leb}
 use Rattle.std.proofs.lemmas.Bool.{lt-leb}
 use Rattle.laws.specs.Tests.{by-test}
@@ -25,6 +25,10 @@ RunWithin N M (Raised run) = run < M
 pub run-most : (N M most : ℕ) (a : Alarm) → N ≤ most → M ≤ most → RunWithin N M a → alarm_run_of a < most
 run-most N M most (Clear run) n m w = omega arith
 run-most N M most (Raised run) n m w = omega arith
+
+-- A run, one sample on; None where it has come to what is needed.
+abbrev pub run_on : ℕ → Bool → ℕ → Option ℕ
+run_on needed counts old = cond (leb needed (next_run counts old)) None (Some (next_run counts old))
 
 -- One sample on, by counting: while clear a run of N tripping samples raises,
 abbrev pub next_clear : ℕ → Bool → ℕ → Alarm

@@ -2,7 +2,7 @@
 -- Assumes nothing.
 use Rattle.std.specs.Prelude.{◌≡◌, refl, true, false, not, List, [], ◌∷◌, ℕ, ◌+◌, ◌-◌, ◌≤◌, ◌<◌, length, get_or, set}
 use Rattle.std.proofs.Math.Path.{ap}
-use Rattle.std.proofs.Common.{◌∙◌, arith}
+use Rattle.std.proofs.Common.{sym, ◌∙◌, arith, ext_get_or}
 use Rattle.laws.specs.Latest.{last_all}
 use Rattle.laws.specs.Each.{each_to, each-next, each-join}
 use Rattle.protections.specs.declared.Limits.{Limits}
@@ -85,3 +85,12 @@ module _ (ls : List Limits) where
   unfolding protections_after protection_after clear_at clear
   fresh-is l e =
       each-list_of no_protection (clear_at ls) (λ p. protection_after (row_at p) (limits_at ls p) []) protections l e (λ p q. refl)
+
+  -- An array of clear protections, each with its limits, is the one at the load.
+  pub fresh-each : (out : List Protection) → length out ≡ protections
+      → ((p : ℕ) → p < protections → get_or out p no_protection ≡ clear (limits_at ls p)) → out ≡ protections_after ls []
+  unfolding protection_after clear
+  fresh-each out e same =
+      ext_get_or no_protection out (protections_after ls []) (e ∙ sym (protections-length [])) (λ p h.
+      let q : p < protections = rw e at h in
+      same p q ∙ sym (protections-at [] p q))

@@ -9,14 +9,12 @@ use sample::{Extremes, Sample, measured};
 use units::ProtectionNo;
 
 // Protection `no`, one sample on, by its row of the table.
+#[tactic(auto, unfolding(crate::specs::Steps::step_at))]
 fn step_at(no: ProtectionNo, s: Sample, e: Extremes, p: Protection) -> Protection
     ensures { result ≡ step_at e s no.0 p }
 {
     let row = row_of(no);
-    let quantity = row.quantity;
-    let direction = row.direction;
-    let value = measured(quantity, s, e);
-    step_one(direction, value, p)
+    step_one(row.direction, measured(row.quantity, s, e), p)
 }
 
 // Protections `from` up to `to`, one sample on.
@@ -31,12 +29,9 @@ fn step_some(
     ensures { result ≡ step_some e s from to ps }
 {
     let mut out = ps;
-    let mut i = from;
-    while i < to {
+    for i in from..to {
         let p = out[i];
-        let stepped = step_at(ProtectionNo(i as u8), s, e, p);
-        out[i] = stepped;
-        i += 1;
+        out[i] = step_at(ProtectionNo(i as u8), s, e, p);
     }
     out
 }
@@ -51,11 +46,12 @@ pub fn step_all(ps: [Protection; PROTECTIONS], s: Sample, e: Extremes) -> [Prote
 }
 
 // A protection at the load: clear, with no run.
+#[tactic(auto, unfolding(crate::specs::Steps::clear))]
 fn cleared(limits: Limits) -> Protection
     ensures { result ≡ clear limits }
 {
     Protection {
-        limits: limits,
+        limits,
         alarm: Alarm::Clear(0),
     }
 }
@@ -64,13 +60,5 @@ fn cleared(limits: Limits) -> Protection
 pub fn fresh(ls: [Limits; PROTECTIONS]) -> [Protection; PROTECTIONS]
     ensures { result ≡ protections_after ls [] }
 {
-    let first = cleared(ls[0]);
-    let mut out = [first; PROTECTIONS];
-    let mut i: usize = 0;
-    while i < PROTECTIONS {
-        let next = cleared(ls[i]);
-        out[i] = next;
-        i += 1;
-    }
-    out
+    ls.map(cleared)
 }

@@ -1,7 +1,7 @@
 // The run rule of document 01: what raises a protection and what releases it.
 ghost use Rattle.std.specs.Prelude.{◌≡◌};
 ghost use Rattle.protections.specs.Direction.{reaches};
-ghost use Rattle.guard.specs.Runs.{next_clear, next_raised};
+ghost use Rattle.guard.specs.Runs.{run_on};
 ghost use Rattle.guard.specs.Steps.{step_one};
 
 use laws::next_run;
@@ -9,14 +9,14 @@ use protections::{Direction, Limits, back_of};
 use units::Level;
 
 // Clear, with its run of tripping samples; or raised, with its run of releasing samples.
-#[derive(Clone, Copy)]
+#[derive(Clone, Copy, Debug, PartialEq, Eq)]
 pub enum Alarm {
     Clear(u8),
     Raised(u8),
 }
 
 // One protection: what the page says of it, and whether it is raised.
-#[derive(Clone, Copy)]
+#[derive(Clone, Copy, Debug, PartialEq, Eq)]
 pub struct Protection {
     pub limits: Limits,
     pub alarm: Alarm,
@@ -26,68 +26,46 @@ fn has_reached(d: Direction, level: Level, value: Level) -> bool
     ensures { result ≡ reaches d level.0 value.0 }
 {
     match d {
-        Direction::Above => level.0 <= value.0,
-        Direction::Below => value.0 <= level.0,
+        Direction::Above => level <= value,
+        Direction::Below => value <= level,
     }
 }
 
-// A clear protection, one sample on: a run of N tripping samples raises it.
-fn next_clear(n: u8, trips: bool, old: u8) -> Alarm
-    ensures { result ≡ next_clear n trips old }
+// A run, one sample on: one longer if the sample counts, else none; None where `needed` are reached, and the protection moves.
+#[tactic(auto, unfolding(laws::specs::Latest::next_run))]
+fn run_on(needed: u8, counts: bool, old: u8) -> Option<u8>
+    ensures { result ≡ run_on needed counts old }
 {
-    // Most samples do not trip, and are answered first: the run ends. No accepted page has an N of 0, for which a run of none would do.
-    if !trips {
-        if n != 0 {
-            return Alarm::Clear(0);
-        }
-        return Alarm::Raised(0);
+    // Most samples do not count, and are answered first: the run ends. No accepted page has an N or M of 0, for which a run of none would do.
+    if !counts {
+        return if needed == 0 { None } else { Some(0) };
     }
     let run = next_run(true, old);
-    if n <= run {
-        Alarm::Raised(0)
-    } else {
-        Alarm::Clear(run)
-    }
-}
-
-// A raised one: a run of M releasing samples releases it.
-fn next_raised(m: u8, qualifies: bool, old: u8) -> Alarm
-    ensures { result ≡ next_raised m qualifies old }
-{
-    // A sample that does not qualify ends the run.
-    if !qualifies {
-        if m != 0 {
-            return Alarm::Raised(0);
-        }
-        return Alarm::Clear(0);
-    }
-    let run = next_run(true, old);
-    if m <= run {
-        Alarm::Clear(0)
-    } else {
-        Alarm::Raised(run)
-    }
+    if needed <= run { None } else { Some(run) }
 }
 
 // One protection, one sample on: `value` is what it looks at in the sample. While clear it asks the trip level alone, while raised the
 // release level alone: with an accepted page no sample reaches both (`never-trips-and-releases`, crate never).
+#[tactic(auto, unfolding(crate::specs::Steps::step_one))]
 pub fn step_one(d: Direction, value: Level, p: Protection) -> Protection
     ensures { result ≡ step_one d value.0 p }
 {
     let limits = p.limits;
-    let a = p.alarm;
-    let next = match a {
-        Alarm::Clear(run) => {
+    let alarm = match p.alarm {
+        Alarm::Clear(old) => {
             let trips = has_reached(d, limits.trip, value);
-            next_clear(limits.n, trips, run)
+            match run_on(limits.n, trips, old) {
+                Some(run) => Alarm::Clear(run),
+                None => Alarm::Raised(0),
+            }
         }
-        Alarm::Raised(run) => {
+        Alarm::Raised(old) => {
             let qualifies = has_reached(back_of(d), limits.release, value);
-            next_raised(limits.m, qualifies, run)
+            match run_on(limits.m, qualifies, old) {
+                Some(run) => Alarm::Raised(run),
+                None => Alarm::Clear(0),
+            }
         }
     };
-    Protection {
-        limits: limits,
-        alarm: next,
-    }
+    Protection { limits, alarm }
 }
