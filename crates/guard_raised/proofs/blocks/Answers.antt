@@ -1,21 +1,14 @@
--- `guard_raised::blocks` meets its contract: no entry below i blocks the switch. Assumes nothing.
-use mathlib.Core.Path.{◌≡◌, sym, ◌∙◌}
-use Rattle.laws.specs.Words.{any-none, any-next, any-yes}
-use Rattle.protections.specs.Table.{protections}
-use Rattle.guard_raised.specs.Words.{blocks_any}
-use native.Mathlib.Omega.{arith}
+-- `guard_raised::blocks` meets its contract. Assumes nothing.
+use Rattle.std.proofs.Common.{◌∙◌, rules, tests}
+use Rattle.std.proofs.lemmas.Iterator.{YieldsList-from_slice}
+use Rattle.std.proofs.lemmas.Iterator.Search.{any_from_yields_List}
+use Rattle.guard.specs.Steps.{no_protection}
+use Rattle.guard_raised.specs.Words.{blocks_one, blocks_any}
+use Rattle.guard_raised.proofs.Places.{any-list}
 use Rattle.guard_raised.proofs.blocks.Goals as goal
-
-pub loop-i-init : goal.loop-i-init
-loop-i-init c = (omega arith, any-none _)
-
-pub returns-then-blocks_one : goal.returns-then-blocks_one
-unfolding blocks_any
-returns-then-blocks_one c = sym (any-yes _ protections _ (omega arith) (sym c.blocks_one.ensures ∙ c.if-blocks_one.true))
-
-pub loop-i-preserved : goal.loop-i-preserved
-loop-i-preserved c = (omega arith, any-next _ _ c.loop-i.invariant.1 (sym c.blocks_one.ensures ∙ c.if-blocks_one.false))
 
 pub returns : goal.returns
 unfolding blocks_any
-returns c = let e : c.loop-i.i ≡ protections = omega arith in sym (rw e at c.loop-i.invariant.1)
+returns c =
+    any_from_yields_List (blocks_one c.args.switch) _ _ _ c.any.ensures.ran (YieldsList-from_slice c.args.ps cc) (λ x b q k. search (rules, tests))
+    ∙ any-list (blocks_one c.args.switch) c.args.ps no_protection 10 (search rules)

@@ -1,18 +1,15 @@
--- `guard_raised::lowest_raised` meets its contract: what is left of the search finds what the whole search finds. Assumes nothing.
-use mathlib.Core.Path.{◌≡◌, sym, ap, ◌∙◌}
-use Rattle.protections.specs.Table.{protections}
-use Rattle.guard_raised.specs.Lowest.{numbered, search-starts, search-finds, search-goes-on, search-ends}
-use native.Mathlib.Omega.{arith}
+-- `guard_raised::lowest_raised` meets its contract. Assumes nothing.
+use Rattle.std.proofs.Common.{rules, tests, ap}
+use Rattle.std.proofs.lemmas.Iterator.{YieldsList-from_slice}
+use Rattle.std.proofs.lemmas.Iterator.Search.{position_from_yields_List}
+use Rattle.guard.specs.Steps.{no_protection}
+use Rattle.guard.specs.Runs.{is_raised}
+use Rattle.guard.specs.declared.rule.Protection.{Protection}
+use Rattle.guard_raised.specs.Lowest.{numbered}
+use Rattle.guard_raised.proofs.Places.{found-list}
 use Rattle.guard_raised.proofs.lowest_raised.Goals as goal
 
-pub loop-i-init : goal.loop-i-init
-loop-i-init c = (omega arith, search-starts _ protections)
-
-pub returns-then-is_raised : goal.returns-then-is_raised
-returns-then-is_raised c = ap numbered (sym (search-finds _ protections _ (omega arith) (sym c.is_raised.ensures ∙ c.if-is_raised.true)) ∙ c.loop-i.invariant.1)
-
-pub loop-i-preserved : goal.loop-i-preserved
-loop-i-preserved c = (omega arith, search-goes-on _ protections _ (omega arith) (sym c.is_raised.ensures ∙ c.if-is_raised.false) ∙ c.loop-i.invariant.1)
-
 pub returns : goal.returns
-returns c = ap numbered (let e : c.loop-i.i ≡ protections = omega arith in e ∙ sym (search-ends _ protections _ e) ∙ c.loop-i.invariant.1)
+returns c =
+    let found = position_from_yields_List (λ (p : Protection). is_raised p.alarm) _ _ c.position-at.result c.position-at.ensures.ran (YieldsList-from_slice c.args.ps cc) (λ x b q k. search (rules, tests)) in
+    ap numbered (rw (c.unwrap_or.ensures, found) (found-list (λ (p : Protection). is_raised p.alarm) c.args.ps no_protection 10 (search rules)))
