@@ -1,14 +1,12 @@
 -- What the state shows: the raised protections, the switches, the mode, and the five fields of a line of the replay. First from the
 -- page and the past, as document 01 says it; then from the state, as the code works it out.
 -- Assumes nothing.
-use Rattle.std.specs.Prelude.{Bool, true, false, not, cond, ◌&&◌, List, [], ◌∷◌, ◌≡◌, refl, ℕ, ◌+◌, ◌<◌, length, drop, get_or}
+use Rattle.std.specs.Prelude.{Option, Some, None, Bool, true, false, not, cond, ◌&&◌, List, [], ◌∷◌, ◌≡◌, refl, ℕ, ◌+◌, ◌<◌, length, drop, get_or}
 use Rattle.std.proofs.Common.{add-one}
 use Rattle.std.proofs.Math.Seq.{drop-cons}
 use Rattle.laws.specs.Bits.{has_bit, with_bit_if, has-zero}
 use Rattle.units.specs.declared.ProtectionNo.{ProtectionNo}
 use Rattle.protections.specs.Table.{row_at}
-use Rattle.protections.specs.declared.Mode.{Mode}
-use Rattle.protections.specs.declared.Mode.TheVariants.{Silent, Number}
 use Rattle.sample.specs.declared.Sample.{Sample}
 use Rattle.guard_raised.specs.Words.{raised_after, raised_word_after, blocks_after, raised_word, blocks_any}
 use Rattle.bleed_wants.specs.Wants.{is_charging}
@@ -33,9 +31,9 @@ switches_word on = with_bit_if (on 1) (with_bit_if (on 0) 0 0) 1
 -- ---- mode
 
 -- The number of a mode; a protection that has none is not in the order below.
-abbrev pub mode_number : Mode → ℕ
-mode_number Silent = 0
-mode_number (Number m) = m
+abbrev pub mode_number : Option ℕ → ℕ
+mode_number None = 0
+mode_number (Some m) = m
 
 abbrev no : ℕ → ProtectionNo
 no p = record { 0 = p }

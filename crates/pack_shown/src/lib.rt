@@ -5,16 +5,16 @@
 ghost use Rattle.std.specs.Prelude.{◌≡◌, ◌<◌};
 ghost use Rattle.laws.specs.Bits.{has_bit};
 ghost use Rattle.pack_state.specs.State.{Watched};
-ghost use Rattle.pack_shown.specs.Shown.{switch_on, switches_of, mode_number, mode_order, first_mode, flow_mode, mode_of, decision_of};
+ghost use Rattle.pack_shown.specs.Shown.{switch_on, switches_of, mode_order, first_mode, flow_mode, mode_of, decision_of};
 
 use bleed_wants::is_charging;
 use laws::{has_bit, with_bit_if};
 use pack_state::Pack;
-use protections::{Mode, row_of};
+use protections::row_of;
 use units::ProtectionNo;
 
 // The five fields of a line of the replay.
-#[derive(Clone, Copy)]
+#[derive(Clone, Copy, Debug, PartialEq, Eq)]
 pub struct Decision {
     pub tick: u32,
     pub raised: u16,
@@ -28,13 +28,7 @@ fn switch_on(p: Pack, switch: u8) -> bool
     requires { Watched p × (switch < 2) }
     ensures { result ≡ switch_on p switch }
 {
-    if p.sampled {
-        if has_bit(p.command as u16, switch) {
-            let w = p.watch;
-            return !has_bit(w.blocked, switch);
-        }
-    }
-    false
+    p.sampled && has_bit(u16::from(p.command), switch) && !has_bit(p.watch.blocked, switch)
 }
 
 // The switches that are on: bit 0 charge, bit 1 discharge.
@@ -44,15 +38,6 @@ pub fn switches(p: Pack) -> u16
 {
     let charge = with_bit_if(0, 0, switch_on(p, 0));
     with_bit_if(charge, 1, switch_on(p, 1))
-}
-
-fn mode_number(m: Mode) -> u8
-    ensures { result ≡ mode_number m }
-{
-    match m {
-        Mode::Silent => 0,
-        Mode::Number(k) => k,
-    }
 }
 
 // The order in which raised protections give the mode.
@@ -66,7 +51,7 @@ const ORDER: [ProtectionNo; 7] = [
     ProtectionNo(5),
 ];
 
-// The mode of the first raised protection from place i of the order on, or `other`.
+// The mode of the first raised protection of the order, or `other`.
 fn first_mode(raised: u16, other: u8) -> u8
     ensures { result ≡ first_mode (has_bit raised) mode_order other }
 {
@@ -74,15 +59,10 @@ fn first_mode(raised: u16, other: u8) -> u8
     if raised == 0 {
         return other;
     }
-    let mut i: usize = 0;
-    while i < 7 {
-        let p = ORDER[i];
+    for p in ORDER {
         if has_bit(raised, p.0) {
-            let row = row_of(p);
-            let mode = row.mode;
-            return mode_number(mode);
+            return row_of(p).mode.unwrap_or(0);
         }
-        i += 1;
     }
     other
 }
@@ -102,11 +82,8 @@ pub fn mode(p: Pack) -> u16
     ensures { result ≡ mode_of p }
 {
     if p.sampled {
-        let rules = p.rules;
-        let latest = p.latest;
-        let other = flow_mode(is_charging(rules.detection, latest.current));
-        let w = p.watch;
-        return first_mode(w.raised, other) as u16;
+        let other = flow_mode(is_charging(p.rules.detection, p.latest.current));
+        return u16::from(first_mode(p.watch.raised, other));
     }
     0
 }
@@ -116,15 +93,11 @@ pub fn decide(p: Pack) -> Decision
     requires { Watched p }
     ensures { result ≡ decision_of p }
 {
-    let w = p.watch;
-    let b = p.balance;
-    let fets = switches(p);
-    let mode = mode(p);
     Decision {
         tick: p.tick,
-        raised: w.raised,
-        fets: fets,
-        balance: b.bled,
-        mode: mode,
+        raised: p.watch.raised,
+        fets: switches(p),
+        balance: p.balance.bled,
+        mode: mode(p),
     }
 }

@@ -3,12 +3,12 @@ use Rattle.pack_shown.specs.Shown.{decision_of}
 use Rattle.guard_watch.specs.Watch.{watch_of}
 use Rattle.pack_shown.proofs.decide.Goals as goal
 
-pub switches-fets-requires : goal.switches-fets-requires
-switches-fets-requires c = c.requires
+pub switches-requires : goal.switches-requires
+switches-requires c = c.requires
 
-pub mode-mode-requires : goal.mode-mode-requires
-mode-mode-requires c = c.requires
+pub mode-requires : goal.mode-requires
+mode-requires c = c.requires
 
 pub returns : goal.returns
 unfolding decision_of watch_of
-returns c = rw (c.mode-mode.ensures, c.switches-fets.ensures, c.requires)
+returns c = rw (c.mode.ensures, c.switches.ensures, c.requires)

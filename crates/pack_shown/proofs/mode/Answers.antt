@@ -8,6 +8,7 @@ pub returns-then-p : goal.returns-then-p
 unfolding mode_of watch_of
 returns-then-p c = rw (
   c.if-p.true,
+  c.from.ensures,
   c.first_mode.ensures,
   c.requires,
   c.flow_mode-other.ensures,
