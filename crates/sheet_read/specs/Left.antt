@@ -4,7 +4,7 @@ use Rattle.std.proofs.Math.Path.{◌≡◌}
 use Rattle.std.proofs.Common.{arith}
 use Rattle.std.specs.Prelude.{List, ℕ, eqb, length}
 use Rattle.laws.specs.Tests.{by-test}
-use Rattle.refusals.specs.declared.Verdict.TheVariants.{Accepted, Refused}
+use Rattle.refusals.specs.Verdicts.{Accepted, Refused}
 use Rattle.sheet_read.specs.Reading.{bad_in, page_said, taken_for, taken_in, read_verdict, page_in}
 use Rattle.sheet_read.specs.Unjudged.{sized_for, sized_in, words_verdict, words_in}
 

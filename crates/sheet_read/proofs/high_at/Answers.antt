@@ -12,5 +12,5 @@ overflow_cast-result c = let a = c.args in
 pub returns-then-i-last_line : goal.returns-then-i-last_line
 returns-then-i-last_line c = let a = c.args in high-last (layout_for a.long) a.i a.v (c.if-i-last_line.true ∙ c.last_line.ensures)
 
-pub returns : goal.returns
-returns c = let a = c.args in high-other (layout_for a.long) a.i a.v (λ e. c.if-i-last_line.false (e ∙ sym c.last_line.ensures))
+pub returns-else-i-last_line : goal.returns-else-i-last_line
+returns-else-i-last_line c = let a = c.args in high-other (layout_for a.long) a.i a.v (λ e. c.if-i-last_line.false (e ∙ sym c.last_line.ensures))
