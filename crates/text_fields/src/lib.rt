@@ -11,24 +11,12 @@ fn find_slowly(bytes: &[u8], from: usize, wanted: u8) -> usize
     ensures value { result ≡ from + length (before wanted (drop from bytes.now)) }
     ensures lower_bound { (from ≤ result) × (result - from ≤ length bytes.now - from) }
 {
-    let mut e = from;
-    while e < bytes.len() {
+    for e in from..bytes.len() {
         if bytes[e] == wanted {
             return e;
         }
-        e += 1;
     }
-    e
-}
-
-// The places of n from which sixteen bytes are left.
-fn with_sixteen_left(n: usize) -> usize
-    ensures { result ≡ n - 15 }
-{
-    if n < 15 {
-        return 0;
-    }
-    n - 15
+    from.max(bytes.len())
 }
 
 // Whether none of the sixteen bytes from `e` on is `wanted`. All are looked at before anything is decided: that is one comparison of sixteen
@@ -37,22 +25,11 @@ fn none_here(bytes: &[u8], e: usize, wanted: u8) -> bool
     requires { e + 16 ≤ length bytes.now }
     ensures { result ≡ none_of 16 wanted bytes.now e }
 {
-    (bytes[e] != wanted)
-        & (bytes[e + 1] != wanted)
-        & (bytes[e + 2] != wanted)
-        & (bytes[e + 3] != wanted)
-        & (bytes[e + 4] != wanted)
-        & (bytes[e + 5] != wanted)
-        & (bytes[e + 6] != wanted)
-        & (bytes[e + 7] != wanted)
-        & (bytes[e + 8] != wanted)
-        & (bytes[e + 9] != wanted)
-        & (bytes[e + 10] != wanted)
-        & (bytes[e + 11] != wanted)
-        & (bytes[e + 12] != wanted)
-        & (bytes[e + 13] != wanted)
-        & (bytes[e + 14] != wanted)
-        & (bytes[e + 15] != wanted)
+    let mut none = true;
+    for b in &bytes[e..e + 16] {
+        none &= *b != wanted;
+    }
+    none
 }
 
 // The place of the first `wanted` byte at or behind `from`, or the end where there is none; past the end it is `from` itself. Sixteen bytes
@@ -61,7 +38,7 @@ pub fn find(bytes: &[u8], from: usize, wanted: u8) -> usize
     ensures value { result ≡ from + length (before wanted (drop from bytes.now)) }
     ensures lower_bound { (from ≤ result) × (result - from ≤ length bytes.now - from) }
 {
-    let stop = with_sixteen_left(bytes.len());
+    let stop = bytes.len().saturating_sub(15);
     let mut e = from;
     while e < stop {
         if none_here(bytes, e, wanted) {
