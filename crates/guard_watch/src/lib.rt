@@ -4,7 +4,6 @@
 #![tactic(auto)]
 
 ghost use Rattle.std.specs.Prelude.{◌≡◌, ◌≤◌};
-ghost use Rattle.std.specs.Int.Signed.{lt_z};
 ghost use Rattle.protections.specs.Table.{protections};
 ghost use Rattle.guard_watch.specs.Bands.{place_of, inside, inside_at, is_calm, nowhere, is_still, short_of, narrowed, narrowed_at, bands_to};
 ghost use Rattle.guard_watch.specs.Watch.{blocked_word, watch_of, Keeps, guarded_by};
@@ -18,7 +17,7 @@ use sample::{Extremes, Sample, measured};
 use units::{Level, ProtectionNo};
 
 // The values between two levels, without the levels themselves.
-#[derive(Clone, Copy)]
+#[derive(Clone, Copy, Debug, PartialEq, Eq)]
 pub struct Band {
     pub above: Level,
     pub below: Level,
@@ -26,7 +25,7 @@ pub struct Band {
 
 // What is kept: for each quantity, by its place, the values at which no protection moves; bit p for raised p; bit 0 if a raised one
 // blocks charge, bit 1 if one blocks discharge.
-#[derive(Clone, Copy)]
+#[derive(Clone, Copy, Debug, PartialEq, Eq)]
 pub struct Watch {
     pub bands: [Band; 5],
     pub raised: u16,
@@ -34,7 +33,7 @@ pub struct Watch {
 }
 
 // The protections, and what is kept of them.
-#[derive(Clone, Copy)]
+#[derive(Clone, Copy, Debug, PartialEq, Eq)]
 pub struct Guarded {
     pub protections: [Protection; PROTECTIONS],
     pub watch: Watch,
@@ -56,50 +55,30 @@ fn place_of(q: Quantity) -> usize
     }
 }
 
-fn is_less(a: Level, b: Level) -> bool
-    ensures { result ≡ lt_z a.0 b.0 }
-{
-    a.0 < b.0
-}
-
 fn is_inside(b: Band, value: Level) -> bool
     ensures { result ≡ inside b value.0 }
 {
-    let above = b.above;
-    let below = b.below;
-    if is_less(above, value) {
-        return is_less(value, below);
-    }
-    false
+    b.above < value && value < b.below
 }
 
 // The sample's quantity is inside its band.
+#[tactic(auto, unfolding(crate::specs::Bands::inside_at))]
 fn is_inside_at(bands: [Band; 5], q: Quantity, s: Sample, e: Extremes) -> bool
     ensures { result ≡ inside_at bands e s q }
 {
-    let at = place_of(q);
-    let b = bands[at];
-    let value = measured(q, s, e);
-    is_inside(b, value)
+    is_inside(bands[place_of(q)], measured(q, s, e))
 }
 
 // Every quantity of the sample is inside its band.
+#[tactic(auto, unfolding(crate::specs::Bands::is_calm))]
 fn is_calm(bands: [Band; 5], s: Sample, e: Extremes) -> bool
     ensures { result ≡ is_calm bands e s }
 {
-    if !is_inside_at(bands, Quantity::HighestCell, s, e) {
-        return false;
-    }
-    if !is_inside_at(bands, Quantity::LowestCell, s, e) {
-        return false;
-    }
-    if !is_inside_at(bands, Quantity::Current, s, e) {
-        return false;
-    }
-    if !is_inside_at(bands, Quantity::Temperature1, s, e) {
-        return false;
-    }
-    is_inside_at(bands, Quantity::Temperature2, s, e)
+    is_inside_at(bands, Quantity::HighestCell, s, e)
+        && is_inside_at(bands, Quantity::LowestCell, s, e)
+        && is_inside_at(bands, Quantity::Current, s, e)
+        && is_inside_at(bands, Quantity::Temperature1, s, e)
+        && is_inside_at(bands, Quantity::Temperature2, s, e)
 }
 
 // ---- the bands of the protections as they stand
@@ -117,27 +96,10 @@ fn nowhere() -> Band
 fn short_of(b: Band, d: Direction, level: Level) -> Band
     ensures { result ≡ short_of b d level.0 }
 {
-    let above = b.above;
-    let below = b.below;
     match d {
-        Direction::Above => {
-            if is_less(level, below) {
-                return Band {
-                    above: above,
-                    below: level,
-                };
-            }
-            b
-        }
-        Direction::Below => {
-            if is_less(above, level) {
-                return Band {
-                    above: level,
-                    below: below,
-                };
-            }
-            b
-        }
+        Direction::Above if level < b.below => Band { below: level, ..b },
+        Direction::Below if b.above < level => Band { above: level, ..b },
+        _ => b,
     }
 }
 
@@ -149,39 +111,28 @@ fn is_still(run: u8, needed: u8) -> bool
 }
 
 // The values of a band at which this protection does not move: with no run those that do not reach its next level, and with a run none.
+#[tactic(auto, unfolding(crate::specs::Bands::narrowed))]
 fn narrowed(b: Band, d: Direction, p: Protection) -> Band
     ensures { result ≡ narrowed b d p }
 {
-    let limits = p.limits;
-    let a = p.alarm;
-    match a {
-        Alarm::Clear(run) => {
-            if is_still(run, limits.n) {
-                return short_of(b, d, limits.trip);
-            }
-            nowhere()
+    match p.alarm {
+        Alarm::Clear(run) if is_still(run, p.limits.n) => short_of(b, d, p.limits.trip),
+        Alarm::Raised(run) if is_still(run, p.limits.m) => {
+            short_of(b, back_of(d), p.limits.release)
         }
-        Alarm::Raised(run) => {
-            if is_still(run, limits.m) {
-                return short_of(b, back_of(d), limits.release);
-            }
-            nowhere()
-        }
+        _ => nowhere(),
     }
 }
 
 // The bands, with that of protection `no` narrowed by it.
+#[tactic(auto, unfolding(crate::specs::Bands::narrowed_at))]
 fn narrowed_at(bands: [Band; 5], no: ProtectionNo, p: Protection) -> [Band; 5]
     ensures { result ≡ narrowed_at bands no.0 p }
 {
     let row = row_of(no);
-    let quantity = row.quantity;
-    let direction = row.direction;
-    let at = place_of(quantity);
-    let b = bands[at];
-    let next = narrowed(b, direction, p);
+    let at = place_of(row.quantity);
     let mut out = bands;
-    out[at] = next;
+    out[at] = narrowed(bands[at], row.direction, p);
     out
 }
 
@@ -193,12 +144,9 @@ fn bands_of(ps: [Protection; PROTECTIONS]) -> [Band; 5]
         above: Level(-100000),
         below: Level(100000),
     }; 5];
-    let mut i: usize = 0;
-    while i < PROTECTIONS {
-        let p = ps[i];
-        let next = narrowed_at(bands, ProtectionNo(i as u8), p);
+    for (i, p) in ps.iter().enumerate() {
+        let next = narrowed_at(bands, ProtectionNo(i as u8), *p);
         bands = next;
-        i += 1;
     }
     bands
 }
@@ -206,6 +154,7 @@ fn bands_of(ps: [Protection; PROTECTIONS]) -> [Band; 5]
 // ---- what is kept, and the step
 
 // The switches that a raised protection blocks: bit 0 charge, bit 1 discharge.
+#[tactic(auto, unfolding(crate::specs::Watch::blocked_word, laws::specs::Words::bits_of))]
 fn blocked_word(ps: [Protection; PROTECTIONS]) -> u16
     ensures { result ≡ blocked_word ps }
 {
@@ -214,35 +163,32 @@ fn blocked_word(ps: [Protection; PROTECTIONS]) -> u16
 }
 
 // What is kept of the protections.
+#[tactic(auto, unfolding(crate::specs::Watch::watch_of))]
 pub fn watch_of(ps: [Protection; PROTECTIONS]) -> Watch
     ensures { result ≡ watch_of ps }
 {
-    let bands = bands_of(ps);
-    let raised = raised_word(ps);
-    let blocked = blocked_word(ps);
     Watch {
-        bands: bands,
-        raised: raised,
-        blocked: blocked,
+        bands: bands_of(ps),
+        raised: raised_word(ps),
+        blocked: blocked_word(ps),
     }
 }
 
 // Every protection, one sample on, and what is then kept of them. Most samples move none: then both stay.
+#[tactic(auto, unfolding(crate::specs::Watch::guarded_by))]
 pub fn step(ps: [Protection; PROTECTIONS], w: Watch, s: Sample, e: Extremes) -> Guarded
     requires { Keeps ps w }
     ensures { result ≡ guarded_by e s ps }
 {
-    let bands = w.bands;
-    if is_calm(bands, s, e) {
+    if is_calm(w.bands, s, e) {
         return Guarded {
             protections: ps,
             watch: w,
         };
     }
     let stepped = step_all(ps, s, e);
-    let watch = watch_of(stepped);
     Guarded {
         protections: stepped,
-        watch: watch,
+        watch: watch_of(stepped),
     }
 }

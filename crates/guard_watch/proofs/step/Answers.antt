@@ -14,7 +14,3 @@ returns-then-is_calm c = let a = c.args in
     let calm : is_calm a.w.bands a.e a.s ≡ true = sym c.is_calm.ensures ∙ c.if-is_calm.true in
     let stays : step_all a.e a.s a.ps ≡ a.ps = calm-stays a.e a.s a.ps (rw kept at calm) in
     rw (stays, ← kept)
-
-pub returns : goal.returns
-unfolding guarded_by
-returns c = rw (c.watch_of-watch.ensures, c.step_all-stepped.ensures)
