@@ -29,6 +29,14 @@ pub enum Stop {
     Refused,
 }
 
+// A file that is open to be read, and its name for what is said of it.
+#[derive(Drop)]
+pub struct Input<'a> {
+    rt: &'a HostRuntime,
+    name: &'a [u8],
+    file: File,
+}
+
 // What waits to be answered: how many bytes of the buffer, and whether the file has ended.
 #[derive(Clone, Copy)]
 pub struct More {
@@ -42,7 +50,7 @@ pub struct More {
 #[derive(Drop)]
 pub struct Opened<'a> {
     pub page: &'a [u8],
-    pub log: File,
+    pub log: Input<'a>,
     pub first: usize,
 }
 
@@ -70,7 +78,7 @@ fn say_name(rt: &HostRuntime, name: &[u8]) {
 }
 
 // Says something of a file.
-pub fn say(rt: &HostRuntime, name: &[u8], what: &[u8]) {
+fn say(rt: &HostRuntime, name: &[u8], what: &[u8]) {
     say_name(rt, name);
     say_text(rt, what);
 }
@@ -141,80 +149,73 @@ fn open_above(rt: &HostRuntime, name: &[u8]) -> io::Result<File> {
 }
 
 // Opens a file to be read.
-pub fn open(rt: &HostRuntime, name: &[u8]) -> Result<File, Stop>
+pub fn open<'a>(rt: &'a HostRuntime, name: &'a [u8]) -> Result<Input<'a>, Stop>
     ensures { IsOkUnless result Failed }
 {
-    open_above(rt, name).map_err(|e| fail(rt, name, e))
+    let file = open_above(rt, name).map_err(|e| fail(rt, name, e))?;
+    Ok(Input { rt, name, file })
 }
 
-// One read behind the bytes that are held: how many are held then.
-fn read_on(
-    rt: &HostRuntime,
-    name: &[u8],
-    file: &mut File,
-    buf: &mut [u8],
-    held: usize,
-) -> Result<usize, Stop>
-    requires { held ≤ length buf.old }
-    ensures n_in_bounds { IfOk result (λ n. n ≤ length buf.old) }
-    ensures held_le_n { IfOk result (λ n. held ≤ n) }
-    ensures err { IsOkUnless result Failed }
-{
-    let n = file.read(&mut buf[held..]).map_err(|e| fail(rt, name, e))?;
-    Ok(held + n)
-}
-
-// Reads until the file ends, a read fails or the buffer is full: what it read.
-pub fn read_all<'a>(
-    rt: &HostRuntime,
-    name: &[u8],
-    file: &mut File,
-    buf: &'a mut [u8],
-) -> Result<&'a [u8], Stop>
-    ensures read_in_bounds { IfOk result (λ read. length read.now ≤ length buf.old) }
-    ensures err { IsOkUnless result Failed }
-{
-    let mut held = 0;
-    while held < buf.len() {
-        let n = read_on(rt, name, file, buf, held)?;
-        if n == held {
-            break;
-        }
-        held = n;
+impl<'a> Input<'a> {
+    // Says something of the file.
+    pub fn say(&self, what: &[u8]) {
+        say(self.rt, self.name, what);
     }
-    Ok(&buf[..held])
-}
 
-// What waits, where `held` bytes are left of what was read. While lines wait in them (`done` says that none is left) nothing is read. The file
-// has ended only where no line is left, there was room for more, and a read gave nothing.
-pub fn read_more(
-    rt: &HostRuntime,
-    name: &[u8],
-    file: &mut File,
-    done: bool,
-    buf: &mut [u8],
-    held: usize,
-) -> Result<More, Stop>
-    ensures have_in_bounds { IfOk result (λ more. more.have ≤ length buf.old) }
-    ensures done_value { IfOk result (λ more. more.ended ≡ true → (done ≡ true) × (more.have ≡ held)) }
-    ensures err { IsOkUnless result Failed }
-{
-    if done {
-        if held < buf.len() {
-            let have = read_on(rt, name, file, buf, held)?;
+    // One read behind the bytes that are held: how many are held then.
+    fn read_on(&mut self, buf: &mut [u8], held: usize) -> Result<usize, Stop>
+        requires { held ≤ length buf.old }
+        ensures n_in_bounds { IfOk result (λ n. n ≤ length buf.old) }
+        ensures held_le_n { IfOk result (λ n. held ≤ n) }
+        ensures err { IsOkUnless result Failed }
+    {
+        let n = self
+            .file
+            .read(&mut buf[held..])
+            .map_err(|e| fail(self.rt, self.name, e))?;
+        Ok(held + n)
+    }
+
+    // Reads until the file ends, a read fails or the buffer is full: what it read.
+    pub fn read_all<'b>(&mut self, buf: &'b mut [u8]) -> Result<&'b [u8], Stop>
+        ensures read_in_bounds { IfOk result (λ read. length read.now ≤ length buf.old) }
+        ensures err { IsOkUnless result Failed }
+    {
+        let mut held = 0;
+        while held < buf.len() {
+            let n = self.read_on(buf, held)?;
+            if n == held {
+                break;
+            }
+            held = n;
+        }
+        Ok(&buf[..held])
+    }
+
+    // What waits, where `held` bytes are left of what was read. While lines wait in them (`done` says that none is left) nothing is read. The
+    // file has ended only where no line is left, there was room for more, and a read gave nothing.
+    pub fn read_more(&mut self, done: bool, buf: &mut [u8], held: usize) -> Result<More, Stop>
+        ensures have_in_bounds { IfOk result (λ more. more.have ≤ length buf.old) }
+        ensures done_value { IfOk result (λ more. more.ended ≡ true → (done ≡ true) × (more.have ≡ held)) }
+        ensures err { IsOkUnless result Failed }
+    {
+        if done {
+            if held < buf.len() {
+                let have = self.read_on(buf, held)?;
+                return Ok(More {
+                    ended: have == held,
+                    have,
+                });
+            }
+        } else if held <= buf.len() {
             return Ok(More {
-                ended: have == held,
-                have,
+                ended: false,
+                have: held,
             });
         }
-    } else if held <= buf.len() {
-        return Ok(More {
-            ended: false,
-            have: held,
-        });
+        self.say(b": no room for a line\n");
+        Err(Stop::Failed)
     }
-    say(rt, name, b": no room for a line\n");
-    Err(Stop::Failed)
 }
 
 // Writes a text to standard output.
@@ -235,9 +236,9 @@ pub fn write_last(rt: &HostRuntime, text: &[u8], ended: Result<(), Stop>) -> Res
 // Opens a page and a log, and reads the page to its end, as far as its buffer goes, and the first bytes of the log. A program writes nothing
 // before that.
 pub fn open_both<'a>(
-    rt: &HostRuntime,
+    rt: &'a HostRuntime,
     page_name: &[u8],
-    log_name: &[u8],
+    log_name: &'a [u8],
     page: &'a mut [u8],
     buf: &mut [u8],
 ) -> Result<Opened<'a>, Stop>
@@ -247,7 +248,7 @@ pub fn open_both<'a>(
 {
     let mut page_file = open(rt, page_name)?;
     let mut log = open(rt, log_name)?;
-    let page = read_all(rt, page_name, &mut page_file, page)?;
-    let first = read_on(rt, log_name, &mut log, buf, 0)?;
+    let page = page_file.read_all(page)?;
+    let first = log.read_on(buf, 0)?;
     Ok(Opened { page, log, first })
 }
