@@ -6,9 +6,8 @@
 ghost use Rattle.std.specs.Prelude.{◌≡◌, true, take, IfOk};
 ghost use Rattle.crc.specs.CheckByte.{remainder};
 
-use files::Stop;
+use files::{Input, Stop};
 use std::fmt::InlineText;
-use std::fs::File;
 use std::process::ExitCode;
 
 // What a read left: whether the file has ended, how many bytes it gave, and the check byte of all bytes so far.
@@ -21,17 +20,11 @@ struct Taken {
 }
 
 // One read more, and the check byte of the bytes before it goes on over what it gave.
-fn take_part(
-    rt: &HostRuntime,
-    path: &[u8],
-    file: &mut File,
-    check: u8,
-    buf: &mut [u8],
-) -> Result<Taken, Stop>
+fn take_part(file: &mut Input, check: u8, buf: &mut [u8]) -> Result<Taken, Stop>
     ensures check_value { IfOk result (λ taken. taken.check ≡ remainder check (take taken.have buf.new)) }
     ensures have_value { IfOk result (λ taken. taken.ended ≡ true → taken.have ≡ 0) }
 {
-    let more = files::read_more(rt, path, file, true, buf, 0)?;
+    let more = file.read_more(true, buf, 0)?;
     let part = &buf[..more.have];
     Ok(Taken {
         ended: more.ended,
@@ -41,18 +34,18 @@ fn take_part(
 }
 
 // Takes the file part by part: where it answers, the file has ended. What it could not do it has said.
-fn take_all(rt: &HostRuntime, path: &[u8], file: &mut File, buf: &mut [u8]) -> Result<Taken, Stop>
+fn take_all(file: &mut Input, buf: &mut [u8]) -> Result<Taken, Stop>
     ensures { IfOk result (λ taken. taken.ended ≡ true) }
 {
     let mut check = 0;
     for _ in 0..files::TURNS {
-        let taken = take_part(rt, path, file, check, buf)?;
+        let taken = take_part(file, check, buf)?;
         if taken.ended {
             return Ok(taken);
         }
         check = taken.check;
     }
-    files::say(rt, path, b": too long\n");
+    file.say(b": too long\n");
     Err(Stop::Failed)
 }
 
@@ -61,7 +54,7 @@ fn run(rt: &HostRuntime) -> Result<(), Stop> {
     let path = files::argument(rt, 1, b"usage: checkbyte FILE\n", &mut name)?;
     let mut file = files::open(rt, path)?;
     let mut buf = [0u8; 65536];
-    let Taken { check, .. } = take_all(rt, path, &mut file, &mut buf)?;
+    let Taken { check, .. } = take_all(&mut file, &mut buf)?;
     let line = InlineText::<4>::of(format_args!("{check:02x}\n"));
     files::write_last(rt, line.as_str().as_bytes(), Ok(()))
 }
