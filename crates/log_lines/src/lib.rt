@@ -30,12 +30,7 @@ pub fn carried(done: bool, left: usize) -> usize
     ensures value { result ≡ carried done left }
     ensures upper_bound { result ≤ left }
 {
-    if done {
-        if 129 < left {
-            return 129;
-        }
-    }
-    left
+    if done { left.min(129) } else { left }
 }
 
 // Moves `count` bytes from `from` on to the front; a buffer that has not so many stays as it is.
@@ -43,10 +38,7 @@ pub fn move_down(buf: &mut [u8], from: usize, count: usize)
     ensures { buf.new ≡ move_down buf.old from count }
 {
     let n = buf.len();
-    if n < count {
-        return;
-    }
-    if n - count < from {
+    if n < count || n - count < from {
         return;
     }
     for i in 0..count {

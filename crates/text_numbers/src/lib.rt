@@ -57,10 +57,7 @@ pub fn with_sign(below: bool, v: u16) -> Option<i16>
     ensures { result ≡ with_sign below v }
 {
     if below {
-        if v == 0 {
-            return None;
-        }
-        if 32768 < v {
+        if v == 0 || 32768 < v {
             return None;
         }
         return Some(negative(v));
@@ -76,10 +73,8 @@ pub fn past_minus(line: &[u8], from: usize) -> usize
     ensures value { result ≡ past_minus line.now from }
     ensures lower_bound { (from ≤ result) × (result - from ≤ length line.now - from) }
 {
-    if from < line.len() {
-        if line[from] == b'-' {
-            return from + 1;
-        }
+    if from < line.len() && line[from] == b'-' {
+        return from + 1;
     }
     from
 }

@@ -1,16 +1,16 @@
 -- `carried` meets its contract.
 use native.Mathlib.Omega.{arith}
 use borrow.Author.Tests.{lt-ltb, le-ltb}
+use Rattle.laws.specs.Tests.{by-order}
 use Rattle.log_lines.specs.Carrying.{carried}
 use Rattle.log_lines.proofs.carried.Goals as goal
 
-pub returns-then-left-gt129 : goal.returns-then-left-gt129
+pub returns-then-done : goal.returns-then-done
 unfolding carried
-returns-then-left-gt129 c = record { value = rw (c.if-done.true, lt-ltb _ _ c.if-left-gt129.true); upper_bound = omega arith }
-
-pub returns-else-left-gt129 : goal.returns-else-left-gt129
-unfolding carried
-returns-else-left-gt129 c = record { value = rw (c.if-done.true, le-ltb _ _ c.if-left-gt129.false); upper_bound = omega arith }
+returns-then-done c = let n = c.args.left in record {
+  value = by-order 129 n (λ h. rw (c.if-done.true, lt-ltb 129 n h) (omega arith)) (λ h. rw (c.if-done.true, le-ltb 129 n h) (omega arith));
+  upper_bound = omega arith;
+}
 
 pub returns-else-done : goal.returns-else-done
 unfolding carried

@@ -3,12 +3,12 @@ use mathlib.Core.Path.{◌≡◌}
 use native.Mathlib.Omega.{arith}
 use Rattle.log_lines.specs.Carrying.{moved-start, moved-on, moved-end, moved-not}
 use Rattle.log_lines.proofs.move_down.Goals as goal
+use Rattle.log_lines.proofs.move_down.Goals.{then-n-count-via-then-n-count, then-n-count-via-else-n-count+then-n-count-2}
 
 pub returns-then-n-count : goal.returns-then-n-count
-returns-then-n-count c = let a = c.args in moved-not a.buf.now a.from a.count (omega arith)
-
-pub returns-then-n-count-2 : goal.returns-then-n-count-2
-returns-then-n-count-2 c = let a = c.args in moved-not a.buf.now a.from a.count (omega arith)
+returns-then-n-count c = let a = c.args in
+    moved-not a.buf.now a.from a.count
+    (elim c.then-n-count.branch [ then-n-count-via-then-n-count w ↦ omega arith | then-n-count-via-else-n-count+then-n-count-2 w ↦ omega arith ])
 
 pub loop-i-init : goal.loop-i-init
 loop-i-init c = (omega arith, moved-start _ _)

@@ -1,21 +1,27 @@
 -- `with_sign` meets its contract: each way out is a case of the definition.
-use Rattle.std.specs.Prelude.{Some}
-use mathlib.Core.Path.{ap, sym, ◌∙◌}
+use Rattle.std.specs.Prelude.{Some, None}
+use mathlib.Core.Path.{◌≡◌, refl, ap, sym, ◌∙◌}
+use mathlib.Core.Logic.{⊎_elim}
 use native.Mathlib.Omega.{arith}
 use mir.Facts.{to_z-of_z, to_z_pos}
 use mir.Syntax.{w16}
 use borrow.Author.Tests.{lt-ltb, le-ltb}
+use Prim.Native.Nat.{ℕ, zero, suc}
+use Rattle.text_numbers.specs.Numbers.{below_of}
 use Rattle.text_numbers.proofs.Minus.{below-some}
-use Rattle.text_numbers.specs.Signs.{with_sign}
+use Rattle.text_numbers.specs.Signs.{with_sign, up_to}
 use Rattle.text_numbers.proofs.with_sign.Goals as goal
+
+zero-none : (v : ℕ) → v ≡ 0 → None ≡ below_of (up_to 32768 v)
+zero-none zero z = refl
+zero-none (suc v) z = absurd (omega arith)
 
 pub returns-then-v-eq0 : goal.returns-then-v-eq0
 unfolding with_sign
-returns-then-v-eq0 c = rw (c.if-below.true, c.if-v-eq0.true)
-
-pub returns-then-v-gt32768 : goal.returns-then-v-gt32768
-unfolding with_sign
-returns-then-v-gt32768 c = rw (c.if-below.true, lt-ltb _ _ c.if-v-gt32768.true)
+returns-then-v-eq0 c = ⊎_elim
+    (λ z. rw c.if-below.true (zero-none c.args.v z))
+    (λ o. rw (c.if-below.true, lt-ltb 32768 c.args.v o.1))
+    c.then-v-eq0.either
 
 pub returns-then-below : goal.returns-then-below
 unfolding with_sign
