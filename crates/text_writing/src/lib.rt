@@ -11,10 +11,7 @@ ghost use Rattle.text_writing.specs.Rows.{row_text, room, roomed, field_text, fr
 fn has_room(size: usize, at: usize, count: usize) -> bool
     ensures { result ≡ leb (at + count) size }
 {
-    if size < count {
-        return false;
-    }
-    at <= size - count
+    count <= size && at <= size - count
 }
 
 // Puts one byte at `at`, where it has room, and answers the place behind it.
@@ -42,11 +39,7 @@ fn copy(out: &mut [u8], at: usize, text: &[u8])
     requires { at + length text.now ≤ length out.old }
     ensures { out.new ≡ written out.old at text.now }
 {
-    let mut i = 0;
-    while i < text.len() {
-        out[at + i] = text[i];
-        i += 1;
-    }
+    out[at..at + text.len()].copy_from_slice(text);
 }
 
 // Puts `text` at `at` and answers the place behind it; without room nothing is written and the answer is `at`.
@@ -62,57 +55,37 @@ pub fn put_bytes(out: &mut [u8], at: usize, text: &[u8]) -> usize
     at
 }
 
-// The digit 0, b'0', as a wider number.
-const ZERO: u32 = 48;
-
 // How many digits `v` has, without a division.
+// Kept (speed): by `ilog10` a line of the replay takes 906 instructions, and 891 so.
 fn places(v: u32) -> usize
     ensures value { result ≡ length (decimal v) }
     ensures lower_bound { (1 ≤ result) × (result ≤ 10) }
 {
-    if v < 10 {
-        return 1;
+    match v {
+        0..=9 => 1,
+        10..=99 => 2,
+        100..=999 => 3,
+        1000..=9999 => 4,
+        10000..=99999 => 5,
+        100000..=999999 => 6,
+        1000000..=9999999 => 7,
+        10000000..=99999999 => 8,
+        100000000..=999999999 => 9,
+        _ => 10,
     }
-    if v < 100 {
-        return 2;
-    }
-    if v < 1000 {
-        return 3;
-    }
-    if v < 10000 {
-        return 4;
-    }
-    if v < 100000 {
-        return 5;
-    }
-    if v < 1000000 {
-        return 6;
-    }
-    if v < 10000000 {
-        return 7;
-    }
-    if v < 100000000 {
-        return 8;
-    }
-    if v < 1000000000 {
-        return 9;
-    }
-    10
 }
 
 // Puts the `k` digits of `v` at `at`, the last one first.
-fn put_digits(out: &mut [u8], at: usize, k: usize, v: u32)
+pub fn put_digits(out: &mut [u8], at: usize, k: usize, v: u64)
     requires { (k ≡ length (decimal v)) × (1 ≤ k) × (at + k ≤ length out.old) }
     ensures { out.new ≡ written out.old at (decimal v) }
 {
-    let mut i = at + k - 1;
     let mut rest = v;
-    while 10 <= rest {
-        out[i] = (ZERO + rest % 10) as u8;
+    for i in 1..k {
+        out[at + k - i] = b'0' + (rest % 10) as u8;
         rest /= 10;
-        i -= 1;
     }
-    out[i] = (ZERO + rest) as u8;
+    out[at] = b'0' + rest as u8;
 }
 
 // Puts the decimal text of `v` at `at`, where it has room, and answers the place behind it.
@@ -122,7 +95,7 @@ fn put_decimal_in(out: &mut [u8], at: usize, v: u32) -> usize
     ensures upper_bound { result ≤ at + 10 }
 {
     let k = places(v);
-    put_digits(out, at, k, v);
+    put_digits(out, at, k, v as u64);
     at + k
 }
 
@@ -147,9 +120,9 @@ fn put_long_in(out: &mut [u8], at: usize, v: u32) -> usize
         return put_decimal_in(out, at, v);
     }
     let e = put_decimal_in(out, at, v / 1000);
-    out[e] = (ZERO + v / 100 % 10) as u8;
-    out[e + 1] = (ZERO + v / 10 % 10) as u8;
-    out[e + 2] = (ZERO + v % 10) as u8;
+    out[e] = b'0' + (v / 100 % 10) as u8;
+    out[e + 1] = b'0' + (v / 10 % 10) as u8;
+    out[e + 2] = b'0' + (v % 10) as u8;
     e + 3
 }
 

@@ -1,19 +1,15 @@
--- `text_wide::places` meets its contract. Assumes nothing.
-use Rattle.text_fields.specs.Spelling.{decimal-some}
-use Rattle.text_wide.specs.Places.{wide-few, digits-left, digits-done}
+-- `text_wide::places` meets its contract: a number of k + 1 digits is 10 ^ k at least, and below 10 ^ (k + 1). Assumes nothing.
+use mathlib.Core.Path.{sym, ap}
+use native.Mathlib.Numerals.{add-one}
 use native.Mathlib.Omega.{arith}
+use lib.ListN.{length}
+use Rattle.std.proofs.Math.Nat.{pow-succ'}
+use Rattle.text_fields.specs.Spelling.{decimal-digit, decimal-places}
 use Rattle.text_wide.proofs.places.Goals as goal
 
-pub loop-rest-init : goal.loop-rest-init
-loop-rest-init c = (omega arith, wide-few _ c.ranges.v.fits)
-
-pub overflow_add-k : goal.overflow_add-k
-overflow_add-k c = let l = c.loop-rest in record { fits = omega (arith, l.invariant.0, l.invariant.1) }
-
-pub loop-rest-preserved : goal.loop-rest-preserved
-loop-rest-preserved c = let l = c.loop-rest in (digits-left _ _ _ (omega arith) l.invariant.0, l.invariant.1)
+pub returns-then-v-lt10 : goal.returns-then-v-lt10
+returns-then-v-lt10 c = record { value = sym (ap length (decimal-digit _ (omega arith))); lower_bound = (omega arith, omega arith) }
 
 pub returns : goal.returns
-returns c = let l = c.loop-rest in
-    let e = digits-done _ _ _ (omega arith) l.invariant.0 in
-    record { value = e; lower_bound = omega (arith, e, decimal-some c.args.v, l.invariant.1) }
+returns c = let k = c.ilog10.result in
+    record { value = rw add-one (decimal-places k c.args.v c.ilog10.ensures.power_le (rw (pow-succ' 10 k) c.ilog10.ensures.next_power_gt)); lower_bound = (omega arith, omega arith) }

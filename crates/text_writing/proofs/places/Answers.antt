@@ -5,32 +5,32 @@ use lib.ListN.{length}
 use Rattle.text_fields.specs.Spelling.{decimal-digit, decimal-places}
 use Rattle.text_writing.proofs.places.Goals as goal
 
-pub returns-then-v-lt10 : goal.returns-then-v-lt10
-returns-then-v-lt10 c = record { value = sym (ap length (decimal-digit _ (omega arith))); lower_bound = (omega arith, omega arith) }
+pub returns-in-0-to-9-clause-value : goal.returns-in-0-to-9-clause-value
+returns-in-0-to-9-clause-value c = sym (ap length (decimal-digit _ (omega arith)))
 
-pub returns-then-v-lt100 : goal.returns-then-v-lt100
-returns-then-v-lt100 c = record { value = decimal-places 1 _ (omega arith) (omega arith); lower_bound = (omega arith, omega arith) }
+pub returns-in-10-to-99-clause-value : goal.returns-in-10-to-99-clause-value
+returns-in-10-to-99-clause-value c = decimal-places 1 _ (omega arith) (omega arith)
 
-pub returns-then-v-lt1000 : goal.returns-then-v-lt1000
-returns-then-v-lt1000 c = record { value = decimal-places 2 _ (omega arith) (omega arith); lower_bound = (omega arith, omega arith) }
+pub returns-in-100-to-999-clause-value : goal.returns-in-100-to-999-clause-value
+returns-in-100-to-999-clause-value c = decimal-places 2 _ (omega arith) (omega arith)
 
-pub returns-then-v-lt10000 : goal.returns-then-v-lt10000
-returns-then-v-lt10000 c = record { value = decimal-places 3 _ (omega arith) (omega arith); lower_bound = (omega arith, omega arith) }
+pub returns-in-1000-to-9999-clause-value : goal.returns-in-1000-to-9999-clause-value
+returns-in-1000-to-9999-clause-value c = decimal-places 3 _ (omega arith) (omega arith)
 
-pub returns-then-v-lt100000 : goal.returns-then-v-lt100000
-returns-then-v-lt100000 c = record { value = decimal-places 4 _ (omega arith) (omega arith); lower_bound = (omega arith, omega arith) }
+pub returns-in-10000-to-99999-clause-value : goal.returns-in-10000-to-99999-clause-value
+returns-in-10000-to-99999-clause-value c = decimal-places 4 _ (omega arith) (omega arith)
 
-pub returns-then-v-lt1000000 : goal.returns-then-v-lt1000000
-returns-then-v-lt1000000 c = record { value = decimal-places 5 _ (omega arith) (omega arith); lower_bound = (omega arith, omega arith) }
+pub returns-in-100000-to-999999-clause-value : goal.returns-in-100000-to-999999-clause-value
+returns-in-100000-to-999999-clause-value c = decimal-places 5 _ (omega arith) (omega arith)
 
-pub returns-then-v-lt10000000 : goal.returns-then-v-lt10000000
-returns-then-v-lt10000000 c = record { value = decimal-places 6 _ (omega arith) (omega arith); lower_bound = (omega arith, omega arith) }
+pub returns-in-1000000-to-9999999-clause-value : goal.returns-in-1000000-to-9999999-clause-value
+returns-in-1000000-to-9999999-clause-value c = decimal-places 6 _ (omega arith) (omega arith)
 
-pub returns-then-v-lt100000000 : goal.returns-then-v-lt100000000
-returns-then-v-lt100000000 c = record { value = decimal-places 7 _ (omega arith) (omega arith); lower_bound = (omega arith, omega arith) }
+pub returns-in-10000000-to-99999999-clause-value : goal.returns-in-10000000-to-99999999-clause-value
+returns-in-10000000-to-99999999-clause-value c = decimal-places 7 _ (omega arith) (omega arith)
 
-pub returns-then-v-lt1000000000 : goal.returns-then-v-lt1000000000
-returns-then-v-lt1000000000 c = record { value = decimal-places 8 _ (omega arith) (omega arith); lower_bound = (omega arith, omega arith) }
+pub returns-in-100000000-to-999999999-clause-value : goal.returns-in-100000000-to-999999999-clause-value
+returns-in-100000000-to-999999999-clause-value c = decimal-places 8 _ (omega arith) (omega arith)
 
-pub returns : goal.returns
-returns c = record { value = decimal-places 9 _ (omega arith) (omega arith); lower_bound = (omega arith, omega arith) }
+pub returns-in_default-clause-value : goal.returns-in_default-clause-value
+returns-in_default-clause-value c = decimal-places 9 _ (omega arith) (omega arith)
