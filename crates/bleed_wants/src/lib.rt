@@ -18,6 +18,7 @@ pub fn is_charging(detection: i16, current: i16) -> bool
 
 // One cell's wish while the pack charges and no protection is raised. The lowest cell and the difference may come to more than 16
 // bits hold.
+#[tactic(auto, unfolding(crate::specs::Wants::wants))]
 fn wants_one(
     floor: MilliVolts,
     difference: MilliVolts,
@@ -26,10 +27,7 @@ fn wants_one(
 ) -> bool
     ensures { result ≡ wants true false floor.0 difference.0 lowest.0 cell.0 }
 {
-    if cell.0 < floor.0 {
-        return false;
-    }
-    (lowest.0 as u32) + (difference.0 as u32) < cell.0 as u32
+    floor <= cell && u32::from(lowest.0) + u32::from(difference.0) < u32::from(cell.0)
 }
 
 // Cell `at` + 1 wants: it is a cell of the pack, and has the wish.
@@ -59,19 +57,13 @@ pub fn wanting_word(
     ensures { result ≡ wanting_word n charging raised floor.0 difference.0 lowest.0 cells }
 {
     // A cell wants only if the current is at least the charge detection current, and no protection is raised.
-    if !charging {
-        return 0;
-    }
-    if raised {
+    if !charging || raised {
         return 0;
     }
     let mut word: u16 = 0;
-    let mut i: u8 = 0;
-    while i < 10 {
-        let cell = cells[i as usize];
-        let on = wants_at(n, i, floor, difference, lowest, cell);
-        word = with_bit_if(word, i, on);
-        i += 1;
+    for (i, cell) in cells.iter().enumerate() {
+        let on = wants_at(n, i as u8, floor, difference, lowest, *cell);
+        word = with_bit_if(word, i as u8, on);
     }
     word
 }

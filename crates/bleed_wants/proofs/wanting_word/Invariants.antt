@@ -1,15 +1,9 @@
 -- `bleed_wants::wanting_word` meets its contract. The loop's invariant: the word is that of the wanting cells of the pack among the first i.
 -- Assumes nothing.
-use Prim.Native.Nat.{suc, ◌≤◌, ◌-◌}
-use mathlib.Core.Path.{◌≡◌}
-use mathlib.Core.Bool.{◌&&◌}
-use lib.Dec.{ltb}
+use Rattle.std.proofs.Common.{◌≡◌, ◌&&◌, suc, ltb}
 use Rattle.laws.specs.Words.{bits_of}
 use Rattle.bleed_wants.specs.Steps.{wishes}
 use Rattle.bleed_wants.proofs.wanting_word.Given as goal
 
 abbrev pub invariant-loop-i : goal.invariant-loop-i
-invariant-loop-i l = (l.i ≤ 10) × (l.word ≡ bits_of (λ j. ltb j l.n && wishes l.charging l.raised l.floor.0 l.difference.0 l.lowest.0 l.cells (suc j)) l.i)
-
-abbrev pub decreases-loop-i : goal.decreases-loop-i
-decreases-loop-i l = 10 - l.i
+invariant-loop-i l = l.word ≡ bits_of (λ j. ltb j l.n && wishes l.charging l.raised l.floor.0 l.difference.0 l.lowest.0 l.fn.cells (suc j)) l.i
