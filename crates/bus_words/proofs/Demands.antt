@@ -1,7 +1,7 @@
 -- DEMAND 2 ON THE BUS, the words: after a load of any bytes and any events since, the word of each command is what document 01 says of
 -- the page and the past. It stands in proofs/: an edit that makes a definition wrong is then refused by it.
 -- Assumes nothing.
-use Rattle.std.specs.Prelude.{◌≡◌, List, ℕ, ◌-◌, ◌<◌}
+use Rattle.std.specs.Prelude.{◌≡◌, List, ℕ, ◌-◌, ◌<◌, Some, None}
 use Rattle.std.proofs.Math.Path.{refl, ap}
 use Rattle.std.proofs.Common.{◌∙◌, lit<, lt-ltb, le-ltb}
 use native.Mathlib.Omega.{arith}
@@ -20,8 +20,8 @@ use Rattle.pack_shown.specs.Shown.{switch_after}
 use Rattle.pack.specs.After.{after}
 use Rattle.pack.proofs.After.{after-is}
 use Rattle.pack_shown.specs.Decided.{switches-is, raised-is, mode-is}
-use Rattle.bus_table.specs.declared.Sends.{Sends}
-use Rattle.bus_table.specs.declared.Sends.TheVariants.{Nothing, Cell, Whole}
+use Rattle.bus_table.specs.Sends.{Sends}
+use Rattle.bus_table.specs.declared.Sends.TheVariants.{Cell, Whole}
 use Rattle.bus_table.specs.declared.PackWord.{PackWord}
 use Rattle.bus_table.specs.declared.PackWord.TheVariants.{Temperature1, Temperature2, Sum, Current, ChargingCurrent, ChargingVoltage, Status, Mode, Raised, Bled, Outermost}
 use Rattle.bus_table.specs.Table.{row_of_command}
@@ -83,9 +83,9 @@ module _ (page : Settings) (p : Past) where
   -- The word of each row is the page's and the past's.
   pub sent-word-is : (row : Sends) → sent_word (said_of (state_after page p)) row ≡ sent_word (said_after page p) row
   unfolding sent_word state_after
-  sent-word-is Nothing = refl
-  sent-word-is (Cell k) = refl
-  sent-word-is (Whole w) = pack-word-is w
+  sent-word-is None = refl
+  sent-word-is (Some (Cell k)) = refl
+  sent-word-is (Some (Whole w)) = pack-word-is w
 
 -- ---- after any load and calls
 

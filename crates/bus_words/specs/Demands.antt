@@ -1,6 +1,6 @@
 -- What single words say: the bits of 0x45, the bled cells, the bytes of 0x47. DEMAND 2 ON THE BUS, the words, is shown in proofs/Demands.antt.
 -- Assumes nothing.
-use Rattle.std.specs.Prelude.{◌≡◌, Bool, true, false, List, ℕ, zero, suc, ◌%◌, ◌/◌, ◌≤◌, ◌<◌}
+use Rattle.std.specs.Prelude.{◌≡◌, Bool, true, false, List, ℕ, zero, suc, ◌%◌, ◌/◌, ◌≤◌, ◌<◌, Some, None}
 use Rattle.std.proofs.Math.Path.{refl, ap}
 use Rattle.std.proofs.Common.{◌∙◌, lit<, lt-ltb}
 use native.Mathlib.Omega.{arith}
@@ -13,7 +13,7 @@ use Rattle.units.specs.Signed.{word_of, word-signed}
 use Rattle.page_words.specs.Ranges.{word_at}
 use Rattle.page_judge.specs.Page.{judged}
 use Rattle.page_judge.specs.Accepted.{accepted-inside}
-use Rattle.refusals.specs.declared.Verdict.TheVariants.{Accepted}
+use Rattle.refusals.specs.Verdicts.{Accepted}
 use Rattle.guard_raised.specs.Words.{raised_after}
 use Rattle.page_settings.specs.declared.Settings.{Settings}
 use Rattle.page_settings.specs.Settings.{rules_of, settings_of}
@@ -25,8 +25,8 @@ use Rattle.pack_state.specs.State.{wishes_after, by_page, bled_after, latest_aft
 use Rattle.pack.specs.Kept.{page_of}
 use Rattle.pack_shown.specs.Shown.{switch_after, switches_word}
 use Rattle.pack.specs.Calls.{page-accepted}
-use Rattle.bus_table.specs.declared.Sends.{Sends}
-use Rattle.bus_table.specs.declared.Sends.TheVariants.{Nothing, Cell, Whole}
+use Rattle.bus_table.specs.Sends.{Sends, Whole}
+use Rattle.bus_table.specs.declared.Sends.TheVariants as row
 use Rattle.bus_table.specs.declared.PackWord.{PackWord}
 use Rattle.bus_table.specs.declared.PackWord.TheVariants.{Temperature1, Temperature2, Sum, Current, ChargingCurrent, ChargingVoltage, Status, Mode, Raised, Bled, Outermost}
 use Rattle.bus_table.specs.Table.{table, row_of_command}
@@ -121,9 +121,9 @@ module _ (page : Settings) (h : List Sample) (c d : ℕ) where
   pub command-moves-0x45 : (row : Sends) → (row ≡ Whole Raised → ⊥)
       → sent_word (said_after page (past h c)) row ≡ sent_word (said_after page (past h d)) row
   unfolding sent_word
-  command-moves-0x45 Nothing ne = refl
-  command-moves-0x45 (Cell k) ne = refl
-  command-moves-0x45 (Whole w) ne = whole-kept w (λ e. ne (ap Whole e))
+  command-moves-0x45 None ne = refl
+  command-moves-0x45 (Some (row.Cell k)) ne = refl
+  command-moves-0x45 (Some (row.Whole w)) ne = whole-kept w (λ e. ne (ap Whole e))
 
 -- Word 8 of an accepted page, as it stands on the page.
 pub charging-current-is : (bytes : List ℕ) → judged bytes ≡ Accepted → word_of (page_of bytes).rules.current ≡ word_at bytes 8

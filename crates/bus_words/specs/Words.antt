@@ -1,6 +1,6 @@
 -- The word of each row of the table, as document 01 says it: of the page and the past, and of a state.
 -- Assumes nothing.
-use Rattle.std.specs.Prelude.{◌≡◌, refl, Bool, true, not, cond, ◌&&◌, ◌||◌, List, [], ◌∷◌, ℕ, zero, suc, ◌+◌, ◌-◌, ◌*◌, ◌≤◌, ◌<◌, leb, ltb, ℤ, get_or}
+use Rattle.std.specs.Prelude.{◌≡◌, refl, Bool, true, not, cond, ◌&&◌, ◌||◌, List, [], ◌∷◌, ℕ, zero, suc, ◌+◌, ◌-◌, ◌*◌, ◌≤◌, ◌<◌, leb, ltb, ℤ, get_or, Some, None}
 use Rattle.std.proofs.Common.{ap, add-one, arith, le-leb, leb-true}
 use Rattle.std.proofs.lemmas.Bool.{lt-leb}
 use Rattle.std.specs.Int.Bits.{bit_or}
@@ -20,8 +20,8 @@ use Rattle.pack_state.specs.declared.Pack.{Pack}
 use Rattle.pack_state.specs.Past.{Past}
 use Rattle.pack_state.specs.State.{latest_after, bled_after, Watched}
 use Rattle.pack_shown.specs.Shown.{switch_after, switches_of, mode_after, mode_of}
-use Rattle.bus_table.specs.declared.Sends.{Sends}
-use Rattle.bus_table.specs.declared.Sends.TheVariants.{Nothing, Cell, Whole}
+use Rattle.bus_table.specs.Sends.{Sends}
+use Rattle.bus_table.specs.declared.Sends.TheVariants.{Cell, Whole}
 use Rattle.bus_table.specs.declared.PackWord.{PackWord}
 use Rattle.bus_table.specs.declared.PackWord.TheVariants.{Temperature1, Temperature2, Sum, Current, ChargingCurrent, ChargingVoltage, Status, Mode, Raised, Bled, Outermost}
 use Rattle.bus_table.specs.Table.{row_of_command}
@@ -127,9 +127,9 @@ module _ (x : Said) where
 
   -- The word of a row; 0 where there is none.
   unfoldable pub sent_word : Sends → ℕ
-  sent_word Nothing = 0
-  sent_word (Cell k) = cell_word x.latest.cells k.0
-  sent_word (Whole w) = pack_word w
+  sent_word None = 0
+  sent_word (Some (Cell k)) = cell_word x.latest.cells k.0
+  sent_word (Some (Whole w)) = pack_word w
 
 -- ---- from the page and the past
 

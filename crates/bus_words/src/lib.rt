@@ -2,7 +2,7 @@
 
 #![tactic(auto)]
 
-ghost use Rattle.std.specs.Prelude.{◌≡◌, cond, ◌*◌, ◌≤◌};
+ghost use Rattle.std.specs.Prelude.{◌≡◌, cond, ◌*◌, ◌≤◌, length, sum_by};
 ghost use Rattle.laws.specs.Bits.{has_bit};
 ghost use Rattle.units.specs.Cells.{ten_at_most};
 ghost use Rattle.sample.specs.Cells.{extremes_of};
@@ -20,19 +20,19 @@ use page_settings::Rules;
 use sample::{Sample, extremes_of};
 use units::{CellNo, MilliVolts, ten_at_most, word_of};
 
+// The sum of some cells, ten at most.
+fn sum_of(cells: &[MilliVolts]) -> u32
+    requires { length cells.now ≤ 10 }
+    ensures { result ≡ sum_by (λ (v : MilliVolts). v.0) cells.now }
+{
+    cells.iter().map(|v| u32::from(v.0)).sum()
+}
+
 // The sum of the first `count` cells.
 fn sum_to(cells: [MilliVolts; 10], count: u8) -> u32
     ensures { result ≡ sum_to cells (ten_at_most count) }
 {
-    let n = ten_at_most(count);
-    let mut sum: u32 = 0;
-    let mut i: usize = 0;
-    while i < n {
-        let v = cells[i];
-        sum += v.0 as u32;
-        i += 1;
-    }
-    sum
+    sum_of(&cells[..ten_at_most(count)])
 }
 
 // The sum of the cells of an accepted sample.
@@ -40,34 +40,35 @@ fn sum_word(s: Sample) -> u16
     requires { sum_word s ≤ 60000 }
     ensures { result ≡ sum_word s }
 {
-    let cells = s.cells;
-    let sum = sum_to(cells, s.count);
-    sum as u16
+    sum_to(s.cells, s.count) as u16
 }
 
 // A cell's word; a number that no cell has reads as 0.
+#[tactic(auto, unfolding(crate::specs::Words::cell_word))]
 fn cell_word(cells: [MilliVolts; 10], k: CellNo) -> u16
     ensures { result ≡ cell_word cells k.0 }
 {
     let number = k.0;
-    if number == 0 {
+    if number == 0 || 10 < number {
         return 0;
     }
-    if 10 < number {
-        return 0;
-    }
-    let i = (number - 1) as usize;
-    let v = cells[i];
-    v.0
+    cells[usize::from(number - 1)].0
 }
 
 // The numbers of the highest and the lowest cell: the highest's in the low byte, the lowest's in the high byte.
+#[tactic(auto, unfolding(crate::specs::Words::numbers_word))]
 fn numbers_word(s: Sample) -> u16
     ensures { result ≡ numbers_word (extremes_of s.cells s.count) }
 {
-    let cells = s.cells;
-    let e = extremes_of(cells, s.count);
-    (e.highest.number.0 as u16) + 256 * (e.lowest.number.0 as u16)
+    let e = extremes_of(s.cells, s.count);
+    u16::from_le_bytes([e.highest.number.0, e.lowest.number.0])
+}
+
+// n × word 7, as wide as it takes.
+fn voltage_of(r: Rules) -> u32
+    ensures { result ≡ r.n * r.voltage.0 }
+{
+    u32::from(r.n) * u32::from(r.voltage.0)
 }
 
 // n × word 7: ten cells of 6000 mV come to 60000.
@@ -75,43 +76,31 @@ fn voltage_word(r: Rules) -> u16
     requires { r.n * r.voltage.0 ≤ 60000 }
     ensures { result ≡ r.n * r.voltage.0 }
 {
-    let v = (r.n as u32) * (r.voltage.0 as u32);
-    v as u16
+    voltage_of(r) as u16
 }
 
 // A word that is 0 if a raised protection blocks charge.
 fn unless_blocked(p: Pack, w: u16) -> u16
     ensures { result ≡ cond (blocks_any 0 p.protections) 0 w }
 {
-    let ps = p.protections;
-    if blocks(ps, 0) {
-        return 0;
-    }
-    w
+    if blocks(p.protections, 0) { 0 } else { w }
 }
 
 // Whether 5, 6 or 7 is raised.
+#[tactic(auto, unfolding(crate::specs::Words::heat_raised))]
 fn heat_raised(raised: u16) -> bool
     ensures { result ≡ heat_raised (has_bit raised) }
 {
-    if has_bit(raised, 5) {
-        return true;
-    }
-    if has_bit(raised, 6) {
-        return true;
-    }
-    has_bit(raised, 7)
+    has_bit(raised, 5) || has_bit(raised, 6) || has_bit(raised, 7)
 }
 
 // Battery status.
 fn status(p: Pack) -> u16
     ensures { result ≡ status_of (said_of p) }
 {
-    let rules = p.rules;
-    let latest = p.latest;
     let ps = p.protections;
     let raised = raised_word(ps);
-    let charging = is_charging(rules.detection, latest.current);
+    let charging = is_charging(p.rules.detection, p.latest.current);
     let w6 = with_bit_if(0, 6, !charging);
     let w7 = with_bit_if(w6, 7, true);
     let w11 = with_bit_if(w7, 11, blocks(ps, 1));
@@ -138,74 +127,53 @@ fn raised_and_switches(p: Pack) -> u16
     requires { Watched p }
     ensures { result ≡ raised_and_switches (said_of p) }
 {
-    let ps = p.protections;
-    let raised = raised_word(ps);
+    let raised = raised_word(p.protections);
     let on = switches(p);
-    let mut w: u16 = 0;
-    let mut i: u8 = 0;
-    while i < 12 {
+    let mut w = 0;
+    for i in 0..12 {
         w = with_bit_if(w, i, raised_or_on(raised, on, i));
-        i += 1;
     }
     w
 }
 
 // A word of the whole pack.
+#[tactic(auto, unfolding(crate::specs::Words::pack_word))]
 fn pack_word(p: Pack, w: PackWord) -> u16
     requires { Bounded p }
     ensures { result ≡ pack_word (said_of p) w }
 {
-    let rules = p.rules;
-    let latest = p.latest;
-    let b = p.balance;
     match w {
-        PackWord::Temperature1 => latest.t1.0,
-        PackWord::Temperature2 => latest.t2.0,
-        PackWord::Sum => sum_word(latest),
-        PackWord::Current => word_of(latest.current),
-        PackWord::ChargingCurrent => unless_blocked(p, word_of(rules.current)),
-        PackWord::ChargingVoltage => unless_blocked(p, voltage_word(rules)),
+        PackWord::Temperature1 => p.latest.t1.0,
+        PackWord::Temperature2 => p.latest.t2.0,
+        PackWord::Sum => sum_word(p.latest),
+        PackWord::Current => word_of(p.latest.current),
+        PackWord::ChargingCurrent => unless_blocked(p, word_of(p.rules.current)),
+        PackWord::ChargingVoltage => unless_blocked(p, voltage_word(p.rules)),
         PackWord::Status => status(p),
         PackWord::Mode => mode(p),
         PackWord::Raised => raised_and_switches(p),
-        PackWord::Bled => b.bled,
-        PackWord::Outermost => numbers_word(latest),
+        PackWord::Bled => p.balance.bled,
+        PackWord::Outermost => numbers_word(p.latest),
     }
-}
-
-fn times(n: u8, volts: u16) -> u32
-    ensures { result ≡ n * volts }
-{
-    (n as u32) * (volts as u32)
 }
 
 // Whether the words of a state come to 60000 at most. They do in every state that a load or a later call handed back.
+#[tactic(auto, unfolding(crate::specs::Words::is_bounded))]
 pub fn is_bounded(p: Pack) -> bool
     ensures { result ≡ is_bounded p }
 {
-    let rules = p.rules;
-    let latest = p.latest;
-    let cells = latest.cells;
-    let sum = sum_to(cells, latest.count);
-    if 60000 < sum {
-        return false;
-    }
-    let voltage = times(rules.n, rules.voltage.0);
-    voltage <= 60000
+    sum_to(p.latest.cells, p.latest.count) <= 60000 && voltage_of(p.rules) <= 60000
 }
 
 // The word of a row; 0 where there is none.
-pub fn sent_word(p: Pack, row: Sends) -> u16
+#[tactic(auto, unfolding(crate::specs::Words::sent_word))]
+pub fn sent_word(p: Pack, row: Option<Sends>) -> u16
     requires { Bounded p }
     ensures { result ≡ sent_word (said_of p) row }
 {
     match row {
-        Sends::Nothing => 0,
-        Sends::Cell(k) => {
-            let latest = p.latest;
-            let cells = latest.cells;
-            cell_word(cells, k)
-        }
-        Sends::Whole(w) => pack_word(p, w),
+        None => 0,
+        Some(Sends::Cell(k)) => cell_word(p.latest.cells, k),
+        Some(Sends::Whole(w)) => pack_word(p, w),
     }
 }
