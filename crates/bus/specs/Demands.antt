@@ -1,21 +1,19 @@
 -- DEMANDS 1 AND 2 ON THE BUS, the replies: after a load of any bytes and any events since, the answer to each command and the buffer
 -- afterwards are what document 01 says of the page and the past, and each refusal is given exactly when its row says.
 -- Assumes nothing.
-use Rattle.std.specs.Prelude.{◌≡◌, Bool, List, ◌↔◌, ℕ, length}
+use Rattle.std.specs.Prelude.{◌≡◌, Bool, List, ◌↔◌, ℕ, length, Ok, Err}
 use Rattle.std.proofs.Math.Path.{refl, ap, ap₂}
 use Rattle.std.proofs.Common.{sym, ◌∙◌}
 use Rattle.refusals.specs.Refusals.{NoFault, Lowest, first, none-exactly, refuse-exactly, first-map}
 use Rattle.page_judge.specs.Exactly.{refused-not, refused-one}
-use Rattle.refusals.specs.declared.Verdict.{Verdict}
-use Rattle.refusals.specs.declared.Verdict.TheVariants.{Accepted, Refused as PageRefused}
+use Rattle.refusals.specs.Verdicts.{Verdict, Accepted, Refused as PageRefused}
 use Rattle.pack_state.specs.declared.Pack.{Pack}
 use Rattle.pack.specs.Events.{Event}
 use Rattle.pack_state.specs.State.{state_after}
 use Rattle.pack.specs.Kept.{page_of, past_after, pack_after}
 use Rattle.pack.specs.After.{after}
 use Rattle.pack.proofs.After.{after-is}
-use Rattle.bus.specs.declared.answer.Replied.{Replied}
-use Rattle.bus.specs.declared.answer.Replied.TheVariants.{Sent, Refused}
+use Rattle.bus.specs.Replied.{Replied, Sent, Refused}
 use Rattle.bus_table.specs.Table.{row_of_command}
 use Rattle.bus_words.specs.Words.{sent_word, said_of}
 use Rattle.bus_words.proofs.Demands.{word-is}
@@ -39,14 +37,14 @@ module _ (bytes : List ℕ) (es : List Event) where
 
 -- A reply's answer as a verdict that names word 0.
 abbrev pub verdict_of : Replied → Verdict
-verdict_of Sent = Accepted
-verdict_of (Refused number) = PageRefused number 0
+verdict_of (Ok done) = Accepted
+verdict_of (Err number) = PageRefused number 0
 
 pub verdict-one : (r q : Replied) → verdict_of r ≡ verdict_of q → r ≡ q
-verdict-one Sent Sent e = refl
-verdict-one Sent (Refused k) e = absurd (refused-not k 0 (sym e))
-verdict-one (Refused k) Sent e = absurd (refused-not k 0 e)
-verdict-one (Refused k) (Refused j) e = ap Refused (refused-one k 0 j 0 e).0
+verdict-one (Ok done) (Ok end) e = refl
+verdict-one (Ok done) (Err k) e = absurd (refused-not k 0 (sym e))
+verdict-one (Err k) (Ok done) e = absurd (refused-not k 0 e)
+verdict-one (Err k) (Err j) e = ap Refused (refused-one k 0 j 0 e).0
 
 module _ (n : ℕ) (sampled : Bool) (c room : ℕ) where
   as-verdict : verdict_of (answer_for n sampled c room) ≡ first PageRefused Accepted (reply_refusals n sampled c room)

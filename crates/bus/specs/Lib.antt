@@ -1,3 +1,5 @@
+-- To be believed: what the answer to a command is.
+pub mod Replied
 -- To be believed: refusals 12 to 15, the three bytes of a word, and what stands in the lent buffer afterwards; of the page and the past,
 -- and of a state.
 pub mod Replies

@@ -1,6 +1,6 @@
 -- Replies: document 01's refusals 12 to 15, the three bytes of a word, and what stands in the lent buffer afterwards.
 -- Assumes nothing.
-use Rattle.std.specs.Prelude.{◌≡◌, refl, Bool, not, ◌&&◌, List, [], ◌∷◌, ℕ, ◌/◌, ◌%◌, ltb, length, set}
+use Rattle.std.specs.Prelude.{◌≡◌, refl, Bool, not, ◌&&◌, List, [], ◌∷◌, ℕ, ◌/◌, ◌%◌, ltb, length, set, Some, None, Ok, Err}
 use Rattle.std.proofs.Math.Path.{ap}
 use Rattle.std.proofs.Common.{◌∙◌, true≢false, arith}
 use Rattle.std.proofs.Math.Bool.{true, false}
@@ -13,11 +13,10 @@ use Rattle.page_settings.specs.declared.Settings.{Settings}
 use Rattle.pack_state.specs.declared.Pack.{Pack}
 use Rattle.pack_state.specs.Past.{Past}
 use Rattle.pack_state.specs.State.{any_sample}
-use Rattle.bus_table.specs.declared.Sends.{Sends}
-use Rattle.bus_table.specs.declared.Sends.TheVariants.{Nothing, Cell, Whole}
+use Rattle.bus_table.specs.Sends.{Sends}
+use Rattle.bus_table.specs.declared.Sends.TheVariants.{Cell, Whole}
 use Rattle.bus.specs.declared.answer.Framed.{Framed}
-use Rattle.bus.specs.declared.answer.Replied.{Replied}
-use Rattle.bus.specs.declared.answer.Replied.TheVariants.{Sent, Refused}
+use Rattle.bus.specs.Replied.{Replied, Sent, Refused}
 use Rattle.bus_table.specs.Table.{row_of_command}
 use Rattle.bus_words.specs.Words.{sent_word, word_after, said_of}
 
@@ -25,20 +24,20 @@ use Rattle.bus_words.specs.Words.{sent_word, word_after, said_of}
 
 -- The number and the word of an answer: a refused reply names word 0, and a reply that is sent has number 0.
 abbrev pub answer_of_reply : Replied → Answer
-answer_of_reply Sent = answer 0 0
-answer_of_reply (Refused number) = answer number 0
+answer_of_reply (Ok done) = answer 0 0
+answer_of_reply (Err number) = answer number 0
 
 -- "Command not in the table."
 unfoldable pub not_in_table : Sends → Bool
-not_in_table Nothing = true
-not_in_table (Cell k) = false
-not_in_table (Whole w) = false
+not_in_table None = true
+not_in_table (Some (Cell k)) = false
+not_in_table (Some (Whole w)) = false
 
 -- "Cell command for a cell above n."
 unfoldable pub cell_above : ℕ → Sends → Bool
-cell_above n Nothing = false
-cell_above n (Cell k) = ltb n k.0
-cell_above n (Whole w) = false
+cell_above n None = false
+cell_above n (Some (Cell k)) = ltb n k.0
+cell_above n (Some (Whole w)) = false
 
 -- A row of the table: its number is given if the test holds.
 abbrev pub given_if : ℕ → Bool → Refusal
@@ -72,8 +71,8 @@ bytes_of f = f.low ∷ f.high ∷ f.check ∷ []
 
 -- What stands in the buffer b afterwards: the three bytes, or after a refusal what stood there before.
 abbrev pub bytes_for : Replied → Framed → List ℕ → List ℕ
-bytes_for Sent f b = bytes_of f
-bytes_for (Refused number) f b = b
+bytes_for (Ok done) f b = bytes_of f
+bytes_for (Err number) f b = b
 
 -- Only to a buffer of three bytes anything is sent.
 abbrev pub Fitting : Replied → List ℕ → Type 0

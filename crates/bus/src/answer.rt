@@ -1,62 +1,40 @@
 // Whether a command is answered: refusals 12 to 15; and the three bytes of a word.
 ghost use Rattle.std.specs.Prelude.{◌≡◌};
 ghost use Rattle.refusals.specs.Refusals.{given};
-ghost use Rattle.bus.specs.Replies.{answer_of_reply, not_in_table, cell_above, frame_of, refusals_of, answer_to};
+ghost use Rattle.bus.specs.Replies.{answer_of_reply, cell_above, frame_of, refusals_of, answer_to};
 
 use bus_table::{Sends, row_of_command};
 use crc::check_byte;
 use pack_state::Pack;
 
 // The three bytes of a reply.
-#[derive(Clone, Copy)]
+#[derive(Clone, Copy, Debug, PartialEq, Eq)]
 pub struct Framed {
     pub low: u8,
     pub high: u8,
     pub check: u8,
 }
 
-// The answer to a command: three bytes stand in the buffer, or it is refused.
-#[derive(Clone, Copy)]
-pub enum Replied {
-    Sent,
-    Refused { number: u8 },
-}
+// The answer to a command: three bytes stand in the buffer, or it is refused with a number.
+pub type Replied = Result<(), u8>;
 
 // The three bytes of a word that answer a command.
+#[tactic(auto, unfolding(crate::specs::Replies::frame_of))]
 pub fn frame(command: u8, word: u16) -> Framed
     ensures { result ≡ frame_of command word }
 {
-    let low = (word % 256) as u8;
-    let high = (word / 256) as u8;
+    let [low, high] = word.to_le_bytes();
     let sent = [0x16, command, 0x17, low, high];
     let check = check_byte(&sent);
-    Framed {
-        low: low,
-        high: high,
-        check: check,
-    }
-}
-
-// 12: the command is not in the table.
-fn not_in_table(row: Sends) -> bool
-    ensures { result ≡ not_in_table row }
-{
-    match row {
-        Sends::Nothing => true,
-        Sends::Cell(_) => false,
-        Sends::Whole(_) => false,
-    }
+    Framed { low, high, check }
 }
 
 // 13: it is a cell command for a cell above n.
+#[tactic(auto, unfolding(crate::specs::Replies::cell_above))]
 fn cell_above(n: u8, row: Sends) -> bool
-    ensures { result ≡ cell_above n row }
+    ensures { result ≡ cell_above n (Some row) }
 {
-    match row {
-        Sends::Nothing => false,
-        Sends::Cell(k) => n < k.0,
-        Sends::Whole(_) => false,
-    }
+    matches!(row, Sends::Cell(k) if n < k.0)
 }
 
 // Whether a command is answered into a buffer of `room` bytes, or refused with the lowest of 12 to 15 that applies. In a pack without a page
@@ -64,22 +42,18 @@ fn cell_above(n: u8, row: Sends) -> bool
 pub fn answer_to(p: Pack, command: u8, room: usize) -> Replied
     ensures { (result ≡ answer_to p command room) × (answer_of_reply result ≡ given (refusals_of p command room)) }
 {
-    let rules = p.rules;
-    let row = row_of_command(command);
-    if not_in_table(row) {
-        return Replied::Refused { number: 12 };
-    }
-    if cell_above(rules.n, row) {
-        return Replied::Refused { number: 13 };
+    let Some(row) = row_of_command(command) else {
+        return Err(12);
+    };
+    if cell_above(p.rules.n, row) {
+        return Err(13);
     }
     if room != 3 {
-        return Replied::Refused { number: 14 };
+        return Err(14);
     }
-    if p.sampled {
-        return Replied::Sent;
+    if p.sampled || command == 0x41 {
+        Ok(())
+    } else {
+        Err(15)
     }
-    if command == 0x41 {
-        return Replied::Sent;
-    }
-    Replied::Refused { number: 15 }
 }

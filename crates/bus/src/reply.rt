@@ -2,26 +2,19 @@
 ghost use Rattle.std.specs.Prelude.{◌≡◌, length};
 ghost use Rattle.bus_words.specs.Words.{Bounded};
 ghost use Rattle.refusals.specs.Refusals.{given};
-ghost use Rattle.bus.specs.Replies.{answer_of_reply, refusals_of, bytes_for, Fitting, answer_to, buffer_of, word_refusals, word_answer, word_buffer};
+ghost use Rattle.bus.specs.Replies.{answer_of_reply, refusals_of, bytes_of, answer_to, buffer_of, word_refusals, word_answer, word_buffer};
 
 use crate::answer::{Framed, Replied, answer_to, frame};
 use bus_table::row_of_command;
 use bus_words::sent_word;
 use pack_state::Pack;
 
-// Puts the three bytes where the answer is `Sent`; a refusal leaves the buffer as it was.
-fn put(answer: Replied, f: Framed, out: &mut [u8])
-    requires { Fitting answer out.old }
-    ensures { out.new ≡ bytes_for answer f out.old }
+// Puts the three bytes into a buffer of three.
+fn put(f: Framed, out: &mut [u8])
+    requires { length out.old ≡ 3 }
+    ensures { out.new ≡ bytes_of f }
 {
-    match answer {
-        Replied::Sent => {
-            out[0] = f.low;
-            out[1] = f.high;
-            out[2] = f.check;
-        }
-        Replied::Refused { .. } => {}
-    }
+    out.copy_from_slice(&[f.low, f.high, f.check]);
 }
 
 // Answers with a word of the caller's own: refused with 14 and the buffer as it was, or its three bytes. A gauge above the keeper sends by it.
@@ -30,11 +23,10 @@ pub fn put_word(command: u8, word: u16, out: &mut [u8]) -> Replied
     ensures out_after { out.new ≡ word_buffer command word out.old }
 {
     if out.len() != 3 {
-        return Replied::Refused { number: 14 };
+        return Err(14);
     }
-    let f = frame(command, word);
-    put(Replied::Sent, f, out);
-    Replied::Sent
+    put(frame(command, word), out);
+    Ok(())
 }
 
 // Answers a command into the lent buffer: refused with 12 to 15 and the buffer as it was, or its three bytes.
@@ -43,9 +35,8 @@ pub fn reply(p: Pack, command: u8, out: &mut [u8]) -> Replied
     ensures value { (result ≡ answer_to p command (length out.old)) × (answer_of_reply result ≡ given (refusals_of p command (length out.old))) }
     ensures out_after { out.new ≡ buffer_of p command out.old }
 {
-    let answer = answer_to(p, command, out.len());
+    answer_to(p, command, out.len())?;
     let word = sent_word(p, row_of_command(command));
-    let f = frame(command, word);
-    put(answer, f, out);
-    answer
+    put(frame(command, word), out);
+    Ok(())
 }
