@@ -15,7 +15,7 @@ use Rattle.pack_shown.specs.Shown.{mode_of}
 use Rattle.bus_table.specs.Table.{row_of_command, table}
 use Rattle.bus_words.specs.Words.{sent_word, pack_word, cell_word, sum_to}
 use Rattle.bus.specs.Replies.{not_in_table, cell_above, reply_refusals, answer_for, answer_to, buffer_of, frame_of}
-use Rattle.bus.specs.declared.answer.Replied.TheVariants.{Sent, Refused}
+use Rattle.bus.specs.Replied.{Sent, Refused}
 use Rattle.bus_lines.specs.Lines.{hex_digit, hex_byte, hex_bytes, line_for, answer_text, word_line, lines_to, word_lines, words_text, roomed_lines, roomed}
 
 -- 0x00, 0x09, 0x4a and 0xff

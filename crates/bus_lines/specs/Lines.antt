@@ -1,7 +1,7 @@
 -- The bus as text: a line for each command, and what it says after a load and any events.
 -- Assumes nothing.
 use Prim.Native.Nat.{ℕ, zero, suc, ◌+◌, ◌*◌, ◌/◌, ◌%◌, ◌<◌, ◌≤◌}
-use Rattle.std.specs.Prelude.{◌≡◌, refl, cond, List, [], ◌∷◌, ◌++◌, ltb, length, get_or}
+use Rattle.std.specs.Prelude.{◌≡◌, refl, cond, Ok, Err, List, [], ◌∷◌, ◌++◌, ltb, length, get_or}
 use Rattle.std.proofs.Common.{ap₂, append_assoc, lt-ltb, le-ltb}
 use native.Mathlib.Omega.{arith}
 use Rattle.std.proofs.Math.ListN.{length-append}
@@ -16,8 +16,7 @@ use Rattle.pack_state.specs.declared.Pack.{Pack}
 use Rattle.pack.specs.Events.{Event}
 use Rattle.pack.specs.Kept.{page_of, past_after}
 use Rattle.pack.specs.After.{after}
-use Rattle.bus.specs.declared.answer.Replied.{Replied}
-use Rattle.bus.specs.declared.answer.Replied.TheVariants.{Sent, Refused}
+use Rattle.bus.specs.Replied.{Replied}
 use Rattle.bus.specs.Replies.{answer_to, buffer_of, answer_after, buffer_after}
 use Rattle.bus.specs.Demands.{answer-is, buffer-is}
 
@@ -37,8 +36,8 @@ hex_bytes (b ∷ bs) = hex_byte b ++ hex_bytes bs
 
 -- What follows the command: the three bytes, or `refused` and the number.
 abbrev pub answer_fields : Replied → List ℕ → List (List ℕ)
-answer_fields Sent three = hex_bytes three ∷ []
-answer_fields (Refused number) three = quoted "refused" ∷ decimal number ∷ []
+answer_fields (Ok done) three = hex_bytes three ∷ []
+answer_fields (Err number) three = quoted "refused" ∷ decimal number ∷ []
 
 -- The line of a command that was answered so.
 unfoldable pub line_for : ℕ → Replied → List ℕ → List ℕ
@@ -101,14 +100,14 @@ abbrev pub refused_text : ℕ → List ℕ
 refused_text number = quoted "refused\t" ++ decimal number
 
 abbrev pub answer_text : Replied → List ℕ → List ℕ
-answer_text Sent three = hex_bytes three
-answer_text (Refused number) three = refused_text number
+answer_text (Ok done) three = hex_bytes three
+answer_text (Err number) three = refused_text number
 
 -- A line as the code puts it together.
 pub line-parts : (c : ℕ) (r : Replied) (three : List ℕ) → line_for c r three ≡ (hex_byte c ++ (9 ∷ [])) ++ (answer_text r three ++ (10 ∷ []))
 unfolding line_for line_of
-line-parts c Sent three = simp append_assoc
-line-parts c (Refused number) three = simp append_assoc
+line-parts c (Ok done) three = simp append_assoc
+line-parts c (Err number) three = simp append_assoc
 
 pub digit-low : (v : ℕ) → v < 10 → 48 + v ≡ hex_digit v
 unfolding hex_digit

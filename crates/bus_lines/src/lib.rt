@@ -4,12 +4,11 @@
 
 ghost use Rattle.std.specs.Prelude.{◌≡◌, ◌∷◌, [], ◌++◌, ◌+◌, ◌<◌, ◌≤◌, length};
 ghost use Rattle.text_writing.specs.Placing.{Put};
-ghost use Rattle.pack.specs.Kept.{Kept};
 ghost use Rattle.bus_lines.specs.Lines.{hex_digit, hex_byte, hex_bytes, refused_text, answer_text, line_for, word_line, roomed, roomed_line};
 
 use bus::answer::Replied;
 use bus::reply::reply;
-use pack_state::Pack;
+use pack::Keeper;
 use text_writing::{put_byte, put_bytes, put_decimal};
 
 // The bytes of 256 lines: none has more than 15.
@@ -64,8 +63,8 @@ fn put_answer(out: &mut [u8], at: usize, answer: Replied, three: [u8; 3]) -> usi
     ensures three_len_bound { length (answer_text answer three) ≤ 11 }
 {
     match answer {
-        Replied::Sent => put_three(out, at, three),
-        Replied::Refused { number } => put_refused(out, at, number),
+        Ok(()) => put_three(out, at, three),
+        Err(number) => put_refused(out, at, number),
     }
 }
 
@@ -95,30 +94,27 @@ pub fn put_reply(out: &mut [u8], at: usize, command: u8, answer: Replied, three:
     put_byte(out, f, b'\n')
 }
 
-fn put_line(out: &mut [u8], at: usize, p: Pack, command: u8) -> usize
-    requires { Kept p × (at + 15 ≤ length out.old) }
-    ensures put { Put out.old at (word_line p command) result out.new }
-    ensures command_len_bound { length (word_line p command) ≤ 15 }
+fn put_line(out: &mut [u8], at: usize, k: Keeper, command: u8) -> usize
+    requires { at + 15 ≤ length out.old }
+    ensures put { Put out.old at (word_line k command) result out.new }
+    ensures command_len_bound { length (word_line k command) ≤ 15 }
 {
     let mut three = [0u8; 3];
-    let answer = reply(p, command, &mut three);
+    let answer = reply(k.pack, command, &mut three);
     put_reply(out, at, command, answer, three)
 }
 
 // Puts the 256 lines at the front of a buffer and answers how many bytes they have; where they have no room nothing is written.
-pub fn put_words(p: Pack, out: &mut [u8]) -> usize
-    requires { Kept p }
-    ensures put { Put out.old 0 (roomed (length out.old) p) result out.new }
+pub fn put_words(k: Keeper, out: &mut [u8]) -> usize
+    ensures put { Put out.old 0 (roomed (length out.old) k) result out.new }
     ensures upper_bound { result ≤ length out.old }
 {
     if out.len() < ROOM {
         return 0;
     }
-    let mut at: usize = 0;
-    let mut c: u16 = 0;
-    while c < 256 {
-        at = put_line(out, at, p, (c % 256) as u8);
-        c += 1;
+    let mut at = 0;
+    for c in 0..=255 {
+        at = put_line(out, at, k, c);
     }
     at
 }

@@ -4,7 +4,10 @@ use Rattle.bus_lines.specs.Lines.{word-put}
 use Rattle.bus_lines.proofs.put_line.Goals as goal
 
 pub reply-answer-requires : goal.reply-answer-requires
-reply-answer-requires c = kept-bounded _ c.requires.0
+reply-answer-requires c = kept-bounded _ c.k.invariant
 
 pub returns : goal.returns
-returns c = let both = word-put _ _ _ _ c.reply-answer.ensures.value.0 c.reply-answer.ensures.out_after c.requires.1 (c.put_reply.ensures.put, c.put_reply.ensures.three_len_bound) in record { put = both.0; command_len_bound = both.1 }
+returns c =
+    rw (← c.k.view_is)
+    (let both = word-put _ _ _ _ c.reply-answer.ensures.value.0 c.reply-answer.ensures.out_after c.requires (c.put_reply.ensures.put, c.put_reply.ensures.three_len_bound) in
+    record { put = both.0; command_len_bound = both.1 })
