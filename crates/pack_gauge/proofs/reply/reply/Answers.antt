@@ -1,7 +1,5 @@
 -- `pack_gauge::reply::reply` meets its contract. Assumes nothing.
 use mathlib.Core.Path.{sym, ◌∙◌}
-use Rattle.bus_words.specs.Bounds.{kept-bounded}
-use Rattle.pack_gauge.specs.Filled.{filled-kept}
 use Rattle.pack_gauge.specs.Replies.{reply-waits, reply-own, reply-other}
 use Rattle.pack_gauge.proofs.reply.reply.Goals as goal
 
@@ -17,9 +15,6 @@ returns-then-is_own c = let both = reply-own _ c.requires _ _ _ _ _ (sym c.is_ow
     (sym c.must_wait.ensures ∙ c.if-must_wait.false) c.own_word-word.ensures
     c.put_word.ensures.value.0 c.put_word.ensures.out_after in record { value = both.0; out_after = both.1 }
 
-pub reply-requires : goal.reply-requires
-reply-requires c = kept-bounded _ (filled-kept _ c.requires)
-
 pub returns : goal.returns
 returns c = let both = reply-other _ c.requires _ _ _ _ (sym c.is_own.ensures ∙ c.if-is_own.false)
-    c.reply.ensures.value.0 c.reply.ensures.out_after in record { value = both.0; out_after = both.1 }
+    c.other.ensures.value c.other.ensures.out_after in record { value = both.0; out_after = both.1 }
