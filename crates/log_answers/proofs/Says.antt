@@ -1,10 +1,9 @@
 -- A line of the log is answered with what document 01 says of it, behind the events of the lines before it.
 -- Assumes nothing.
-use Rattle.std.specs.Prelude.{ℕ, ◌≡◌, List, ◌∷◌}
+use Rattle.std.specs.Prelude.{ℕ, ◌≡◌, List, ◌∷◌, Ok, Err}
 use Rattle.std.proofs.Math.Path.{refl, ap}
 use Rattle.std.proofs.Common.{◌∙◌}
-use Rattle.refusals.specs.declared.Verdict.{Verdict}
-use Rattle.refusals.specs.declared.Verdict.TheVariants as verdict
+use Rattle.refusals.specs.Verdicts.{Verdict}
 use Rattle.pack_refusals.specs.Samples.{sample_verdict, command_verdict}
 use Rattle.pack_state.specs.declared.Pack.{Pack}
 use Rattle.pack_state.specs.State.{state_after}
@@ -19,7 +18,7 @@ use Rattle.log_entries.specs.declared.Kind.{Kind}
 use Rattle.log_entries.specs.declared.Kind.TheVariants.{Offer, Command, Malformed}
 use Rattle.log_entries.specs.declared.Entry.{Entry}
 use Rattle.log_entries.specs.Entry.{read_entry}
-use Rattle.log_answers.specs.declared.Told.TheVariants.{Decided}
+use Rattle.log_answers.specs.Told.{Decided}
 use Rattle.log_answers.specs.Tell.{told_of, answered_as, outcome_of, tell}
 use Rattle.log_answers.specs.Says.{with_entry, events_with, told_after, says_as, says}
 
@@ -30,9 +29,9 @@ module _ (page : List ℕ) where
 
   told-is : (v : Verdict) (es : List Event) → told_of v (after page es) ≡ told_after page v es
   unfolding pack_after
-  told-is verdict.Accepted es =
+  told-is (Ok tt) es =
       ap Decided (ap decision_of (after-is page es) ∙ decision-is (page_of page) (past_after page es))
-  told-is (verdict.Refused number word) es = refl
+  told-is (Err r) es = refl
 
   outcome-is : (k : Kind) (es : List Event) (e : Entry)
       → ((outcome_of k (answered_as k (after page es) e)).told ≡ says_as page k es e)

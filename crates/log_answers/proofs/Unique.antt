@@ -13,7 +13,7 @@ answered-by-one : Unique 0 answered-by-kinds.ps answered-by-kinds.r answered-by.
 answered-by-one κs a x y s t p q = p.0 ∙ sym q.0
 
 tell-one : Unique 1 tell-kinds.ps tell-kinds.r tell.Post
-tell-one κs a x y s t p q = p.0 ∙ sym q.0
+tell-one κs a x y s t p q = p ∙ sym q
 
 tell-entry-one : Unique 0 tell-entry-kinds.ps tell-entry-kinds.r tell-entry.Post
-tell-entry-one κs a x y s t p q = p.0 ∙ sym q.0
+tell-entry-one κs a x y s t p q = p ∙ sym q

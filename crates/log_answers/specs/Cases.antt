@@ -14,7 +14,7 @@ use Rattle.pack.specs.Events.{offer, command}
 use Rattle.pack_shown.specs.Shown.{decision}
 use Rattle.log_entries.specs.declared.Kind.TheVariants.{Offer, Command, Malformed}
 use Rattle.log_entries.specs.Entry.{read_command, cells_from, second_from, first_from, read_sample, fields_say, read_entry}
-use Rattle.log_answers.specs.declared.Told.TheVariants.{Decided, Refused}
+use Rattle.log_answers.specs.Told.{Decided, Refused}
 use Rattle.log_answers.specs.Says.{events_behind}
 use Rattle.log_answers.specs.Seventeen.{is_seventeen, is_malformed}
 use Rattle.log_answers.specs.Tell.{answered_as, outcome_of, tell}

@@ -1,4 +1,6 @@
--- What a line is answered with, and the pack behind it.
+-- What a line is answered with.
+pub mod Told
+-- What a line does to a pack.
 pub mod Tell
 -- What document 01 says of a line, by the page and the events before it.
 pub mod Says

@@ -1,9 +1,8 @@
 -- WHAT DOCUMENT 01 SAYS OF A LINE of the log, behind the events of the lines before it, by the page and the history alone. That a line is
 -- answered so is shown in proofs/Says.
 -- Assumes nothing.
-use Rattle.std.specs.Prelude.{ℕ, List, [], ◌∷◌}
-use Rattle.refusals.specs.declared.Verdict.{Verdict}
-use Rattle.refusals.specs.declared.Verdict.TheVariants as verdict
+use Rattle.std.specs.Prelude.{ℕ, List, [], ◌∷◌, Ok, Err}
+use Rattle.refusals.specs.Verdicts.{Verdict}
 use Rattle.pack_refusals.specs.Samples.{sample_verdict, command_verdict}
 use Rattle.pack.specs.Events.{Event, offer, command}
 use Rattle.pack.specs.Kept.{page_of, past_after}
@@ -12,8 +11,7 @@ use Rattle.log_entries.specs.declared.Kind.{Kind}
 use Rattle.log_entries.specs.declared.Kind.TheVariants.{Offer, Command, Malformed}
 use Rattle.log_entries.specs.declared.Entry.{Entry}
 use Rattle.log_entries.specs.Entry.{read_entry}
-use Rattle.log_answers.specs.declared.Told.{Told}
-use Rattle.log_answers.specs.declared.Told.TheVariants.{Decided, Refused}
+use Rattle.log_answers.specs.Told.{Told, Decided, Refused}
 
 -- The events of the lines so far, the latest first, and those of one line more: a malformed line is none.
 abbrev pub with_entry : Kind → Entry → List Event → List Event
@@ -32,8 +30,8 @@ events_behind es (l ∷ ls) = events_behind (events_with es l) ls
 module _ (page : List ℕ) where
   -- The refusal's number, or what document 01 says of the page and the past with this event: decision_after speaks of no state.
   abbrev pub told_after : Verdict → List Event → Told
-  told_after verdict.Accepted es = Decided (decision_after (page_of page) (past_after page es))
-  told_after (verdict.Refused number word) es = Refused number
+  told_after (Ok tt) es = Decided (decision_after (page_of page) (past_after page es))
+  told_after (Err r) es = Refused r.number
 
   -- What document 01 says of a line behind these events.
   abbrev pub says_as : Kind → List Event → Entry → Told

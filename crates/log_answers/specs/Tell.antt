@@ -1,23 +1,21 @@
 -- What a line of the log is answered with, and the pack behind it: document 01, "The replay program" and "Refusal numbers".
 -- Assumes nothing.
-use Rattle.std.specs.Prelude.{ℕ, ◌<◌, ◌≡◌, refl, false, List, [], ◌∷◌, length}
+use Rattle.std.specs.Prelude.{ℕ, ◌<◌, ◌≡◌, refl, false, List, [], ◌∷◌, length, Ok, Err}
 use Rattle.std.proofs.Common.{ap, ◌∙◌}
 use Rattle.refusals.specs.Refusals.{Refusal, refusal, whole}
-use Rattle.refusals.specs.declared.Verdict.{Verdict}
-use Rattle.refusals.specs.declared.Verdict.TheVariants as verdict
+use Rattle.refusals.specs.Verdicts.{Verdict}
+use Rattle.refusals.specs.Verdicts as verdict
 use Rattle.pack_refusals.specs.Samples.{sample_refusals, command_refusals}
 use Rattle.pack_state.specs.declared.Pack.{Pack}
 use Rattle.pack.specs.declared.Answered.{Answered}
 use Rattle.pack.specs.Answers.{offered, commanded, answered}
-use Rattle.pack.specs.Kept.{Kept}
 use Rattle.pack_shown.specs.Shown.{decision_of}
 use Rattle.log_entries.specs.declared.Kind.{Kind}
 use Rattle.log_entries.specs.declared.Kind.TheVariants.{Offer, Command, Malformed}
 use Rattle.log_entries.specs.declared.Entry.{Entry}
 use Rattle.log_entries.specs.Entry.{read_entry}
 use Rattle.log_entries.proofs.Reading.{overlong}
-use Rattle.log_answers.specs.declared.Told.{Told}
-use Rattle.log_answers.specs.declared.Told.TheVariants.{Decided, Refused}
+use Rattle.log_answers.specs.Told.{Told, Decided, Refused}
 use Rattle.log_answers.specs.declared.Outcome.{Outcome}
 
 abbrev pub outcome : Kind → Told → Pack → Outcome
@@ -25,8 +23,8 @@ outcome k t p = record { kind = k; told = t; pack = p }
 
 -- An accepted sample or command gives the decision of the pack behind it. "A refused line gives `refused` and the number."
 abbrev pub told_of : Verdict → Pack → Told
-told_of verdict.Accepted p = Decided (decision_of p)
-told_of (verdict.Refused number word) p = Refused number
+told_of (Ok tt) p = Decided (decision_of p)
+told_of (Err r) p = Refused r.number
 
 unfoldable pub outcome_of : Kind → Answered → Outcome
 outcome_of k a = outcome k (told_of a.verdict a.pack) a.pack
@@ -62,10 +60,10 @@ unfolding tell outcome_of
 tell-overlong p line h = ap (tell_entry p) (overlong line h)
 
 -- The pack's answer a to the line e was told as r.
-pub entry-made : (p : Pack) (e : Entry) (a : Answered) (r : Outcome) → a ≡ answered_as e.kind p e → r ≡ outcome_of e.kind a → Kept a.pack
-    → (r ≡ tell_entry p e) × Kept r.pack
+pub entry-made : (p : Pack) (e : Entry) (a : Answered) (r : Outcome) → a ≡ answered_as e.kind p e → r ≡ outcome_of e.kind a
+    → r ≡ tell_entry p e
 unfolding outcome_of
-entry-made p e a r ea er kept = (rw (← ea) er, rw er kept)
+entry-made p e a r ea er = rw (← ea) er
 
 -- The line was read as e, and that was told as r.
 pub tell-read : (p : Pack) (line : List ℕ) (e : Entry) (r : Outcome) → e ≡ read_entry line → r ≡ tell_entry p e → r ≡ tell p line

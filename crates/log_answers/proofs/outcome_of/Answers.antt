@@ -2,14 +2,15 @@
 use Rattle.log_answers.specs.Tell.{outcome_of}
 use Rattle.pack.specs.Calls.{kept-watched}
 use Rattle.log_answers.proofs.outcome_of.Goals as goal
+use Rattle.log_answers.proofs.outcome_of.Goals.{in-Ok, in-Err}
 
-pub decide-d-requires : goal.decide-d-requires
-decide-d-requires c = kept-watched _ c.requires
+pub decide-requires : goal.decide-requires
+decide-requires c = kept-watched _ c.pack.invariant
 
-pub returns-in-Accepted : goal.returns-in-Accepted
+pub returns : goal.returns
 unfolding outcome_of
-returns-in-Accepted c = rw c.in-Accepted.is cc
-
-pub returns-in-Refused : goal.returns-in-Refused
-unfolding outcome_of
-returns-in-Refused c = rw c.in-Refused.is
+returns c =
+    elim c.match-verdict.branch [
+      | in-Ok w ↦ rw (w.told-is, w.in-Ok.is, w.decide.ensures, ← c.pack.view_is)
+      | in-Err w ↦ rw (w.told-is, w.in-Err.is)
+    ]

@@ -2,8 +2,5 @@
 use Rattle.log_answers.specs.Tell.{entry-made}
 use Rattle.log_answers.proofs.tell_entry.Goals as goal
 
-pub outcome_of-requires : goal.outcome_of-requires
-outcome_of-requires c = c.answered_by-a.ensures.kept
-
 pub returns : goal.returns
-returns c = let both = entry-made _ _ _ _ c.answered_by-a.ensures.value c.outcome_of.ensures c.answered_by-a.ensures.kept in record { value = both.0; kept = both.1 }
+returns c = entry-made _ _ _ _ c.answered_by.ensures.value c.outcome_of.ensures
