@@ -4,9 +4,9 @@ use Rattle.std.specs.Prelude.{◌≡◌, refl, length}
 use Rattle.text_fields.specs.Quoted.{quoted}
 use Rattle.text_fields.specs.Fields.{line_of}
 use Rattle.text_fields.specs.Decimal.{decimal}
-use Rattle.refusals.specs.declared.Verdict.TheVariants as verdict
+use Rattle.refusals.specs.Verdicts as verdict
 use Rattle.pack_shown.specs.Shown.{decision}
-use Rattle.log_answers.specs.declared.Told.TheVariants.{Decided, Refused}
+use Rattle.log_answers.specs.Told.{Decided, Refused}
 use Rattle.log_texts.specs.Texts.{header_text, page_text, decision_text, refused_text, told_text, opening_text}
 use Rattle.log_texts.specs.Room.{room}
 

@@ -5,7 +5,7 @@ use Rattle.std.proofs.Common.{arith}
 use Rattle.laws.specs.Tests.{by-order}
 use Rattle.text_writing.specs.Placing.{Put}
 use Rattle.text_writing.specs.Putting.{put-place, put-full-place, put-one}
-use Rattle.refusals.specs.declared.Verdict.{Verdict}
+use Rattle.refusals.specs.Verdicts.{Verdict}
 use Rattle.log_texts.specs.Texts.{opening_text}
 pub use Rattle.text_writing.specs.Rows.{room, roomed, roomed-is, nothing-put}
 

@@ -1,14 +1,12 @@
 -- The lines that the replay writes: document 01, "The replay program". A text is a list of bytes.
 -- Assumes nothing.
-use Rattle.std.specs.Prelude.{ℕ, List, [], ◌∷◌}
+use Rattle.std.specs.Prelude.{ℕ, List, [], ◌∷◌, Ok, Err}
 use Rattle.text_fields.specs.Quoted.{quoted}
 use Rattle.text_fields.specs.Fields.{line_of}
 use Rattle.text_fields.specs.Decimal.{decimal}
-use Rattle.refusals.specs.declared.Verdict.{Verdict}
-use Rattle.refusals.specs.declared.Verdict.TheVariants as verdict
+use Rattle.refusals.specs.Verdicts.{Verdict}
 use Rattle.pack_shown.specs.declared.Decision.{Decision}
-use Rattle.log_answers.specs.declared.Told.{Told}
-use Rattle.log_answers.specs.declared.Told.TheVariants.{Decided, Refused}
+use Rattle.log_answers.specs.Told.{Told}
 
 -- The header.
 unfoldable pub header_text : List ℕ
@@ -29,10 +27,10 @@ refused_text number = line_of (quoted "refused" ∷ decimal number ∷ [])
 
 -- What a line is answered with.
 abbrev pub told_text : Told → List ℕ
-told_text (Decided d) = decision_text d
-told_text (Refused number) = refused_text number
+told_text (Ok d) = decision_text d
+told_text (Err number) = refused_text number
 
 -- What is written before the lines: "Otherwise a header".
 abbrev pub opening_text : Verdict → List ℕ
-opening_text verdict.Accepted = header_text
-opening_text (verdict.Refused number word) = page_text number word
+opening_text (Ok tt) = header_text
+opening_text (Err r) = page_text r.number r.word

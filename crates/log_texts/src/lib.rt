@@ -10,7 +10,7 @@ ghost use Rattle.log_texts.specs.Room.{room, roomed, Opened};
 
 use log_answers::Told;
 use pack_shown::Decision;
-use refusals::Verdict;
+use refusals::{Refusal, Verdict};
 
 // The bytes of the longest answer to a line, which is a row.
 pub const ROOM: usize = text_writing::ROW;
@@ -18,11 +18,11 @@ pub const ROOM: usize = text_writing::ROW;
 // ---- a line
 
 // A number, and the tab or the newline behind it. Both have room.
-fn put_field(out: &mut [u8], at: usize, v: u32, end: u8) -> usize
+fn put_field(out: &mut [u8], at: usize, v: u8, end: u8) -> usize
     requires { at + length (field_text v end) ≤ length out.old }
     ensures { Put out.old at (field_text v end) result out.new }
 {
-    let e = text_writing::put_decimal(out, at, v);
+    let e = text_writing::put_decimal(out, at, u32::from(v));
     text_writing::put_byte(out, e, end)
 }
 
@@ -40,7 +40,7 @@ fn put_refused(out: &mut [u8], at: usize, number: u8) -> usize
     ensures number_len_bound { length (refused_text number) ≤ 35 }
 {
     let e = text_writing::put_bytes(out, at, b"refused\t");
-    put_field(out, e, number as u32, b'\n')
+    put_field(out, e, number, b'\n')
 }
 
 // Puts the text of an answer at `at` and answers the place behind it; where the longest answer has no room nothing is written and the
@@ -49,15 +49,12 @@ pub fn put_told(out: &mut [u8], at: usize, t: Told) -> usize
     ensures put { Put out.old at (roomed (length out.old) at (told_text t)) result out.new }
     ensures t_len_bound { length (roomed (length out.old) at (told_text t)) ≤ room }
 {
-    if out.len() < ROOM {
-        return at;
-    }
-    if out.len() - ROOM < at {
+    if out.len() < ROOM || out.len() - ROOM < at {
         return at;
     }
     match t {
-        Told::Decided(d) => put_decision(out, at, d),
-        Told::Refused(number) => put_refused(out, at, number),
+        Ok(d) => put_decision(out, at, d),
+        Err(number) => put_refused(out, at, number),
     }
 }
 
@@ -68,8 +65,8 @@ fn put_page(out: &mut [u8], number: u8, word: u8) -> usize
     ensures { Put out.old 0 (page_text number word) result out.new }
 {
     let e = text_writing::put_bytes(out, 0, b"page\t");
-    let f = put_field(out, e, number as u32, b'\t');
-    put_field(out, f, word as u32, b'\n')
+    let f = put_field(out, e, number, b'\t');
+    put_field(out, f, word, b'\n')
 }
 
 // Writes the header, or for a refused page its one line; where the longest answer has no room nothing is written.
@@ -80,11 +77,7 @@ pub fn put_opening(out: &mut [u8], verdict: Verdict) -> usize
         return 0;
     }
     match verdict {
-        Verdict::Accepted => text_writing::put_bytes(
-            out,
-            0,
-            b"tick\traised\tfets\tbalance\tmode\n",
-        ),
-        Verdict::Refused { number, word } => put_page(out, number, word),
+        Ok(()) => text_writing::put_bytes(out, 0, b"tick\traised\tfets\tbalance\tmode\n"),
+        Err(Refusal { number, word }) => put_page(out, number, word),
     }
 }

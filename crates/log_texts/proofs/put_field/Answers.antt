@@ -3,4 +3,4 @@ use Rattle.text_writing.specs.Rows.{put-field}
 use Rattle.log_texts.proofs.put_field.Goals as goal
 
 pub returns : goal.returns
-returns c = put-field c.args.v c.args.end c.requires c.put_decimal-e.ensures.put c.put_byte.ensures.put
+returns c = put-field c.args.v c.args.end c.requires (rw c.from.ensures at c.put_decimal-e.ensures.put) c.put_byte.ensures.put

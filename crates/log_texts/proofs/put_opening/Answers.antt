@@ -8,9 +8,9 @@ use Rattle.log_texts.proofs.put_opening.Goals as goal
 pub returns-then-out-lt-ROOM : goal.returns-then-out-lt-ROOM
 returns-then-out-lt-ROOM c = opened (roomed-short _ 0 _ c.if-out-lt-ROOM.true).0
 
-pub returns-in-Accepted : goal.returns-in-Accepted
+pub returns-in-Ok : goal.returns-in-Ok
 unfolding header_text line_of
-returns-in-Accepted c = opened (roomed-put _ 0 _ _ _ c.if-out-lt-ROOM.false (rw c.in-Accepted.is c.put_bytes.ensures.put))
+returns-in-Ok c = opened (roomed-put _ 0 _ _ _ c.if-out-lt-ROOM.false (rw c.in-Ok.is c.put_bytes.ensures.put))
 
-pub returns-in-Refused : goal.returns-in-Refused
-returns-in-Refused c = opened (roomed-put _ 0 _ _ _ c.if-out-lt-ROOM.false (rw c.in-Refused.is c.put_page.ensures))
+pub returns-in-Err : goal.returns-in-Err
+returns-in-Err c = opened (roomed-put _ 0 _ _ _ c.if-out-lt-ROOM.false (rw c.in-Err.is c.put_page.ensures))
