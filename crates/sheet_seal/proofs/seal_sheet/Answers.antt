@@ -6,5 +6,5 @@ use Rattle.sheet_seal.proofs.seal_sheet.Goals as goal
 pub seal_with-requires : goal.seal_with-requires
 seal_with-requires c = length-long _ (sym c.has_long_mark.ensures ∙ c.if-has_long_mark.true)
 
-pub seal_with-requires-2 : goal.seal_with-requires-2
-seal_with-requires-2 c = length-short _ (sym c.has_long_mark.ensures ∙ c.if-has_long_mark.false)
+pub seal_with-requires-else-has_long_mark : goal.seal_with-requires-else-has_long_mark
+seal_with-requires-else-has_long_mark c = length-short _ (sym c.has_long_mark.ensures ∙ c.if-has_long_mark.false)
