@@ -92,6 +92,7 @@ fn read_numbers(line: &[u8], from: usize, below: bool) -> Entry
     let mut numbers: [u16; 13] = [0; 13];
     let mut count: usize = 0;
     let mut at = from;
+    // Kept (no plainer): the place moves by what was read.
     while at <= line.len() {
         if 13 <= count {
             return no_entry();
@@ -128,20 +129,11 @@ pub fn read_entry(line: &[u8]) -> Entry
     if 128 < line.len() {
         return no_entry();
     }
-    if line.len() < 2 {
-        return no_entry();
+    match line {
+        [b'S', b'\t', ..] => read_sample(line, 2),
+        [b'F', b'\t', ..] => read_command(line, 2),
+        _ => no_entry(),
     }
-    if line[1] != b'\t' {
-        return no_entry();
-    }
-    let letter = line[0];
-    if letter == b'S' {
-        return read_sample(line, 2);
-    }
-    if letter == b'F' {
-        return read_command(line, 2);
-    }
-    no_entry()
 }
 
 // An `S` line that was read along: its newline stands at `end`, and `entry` is what it says.
@@ -204,10 +196,7 @@ pub fn read_ahead(bytes: &[u8], from: usize) -> Option<Ahead>
     ensures { result ≡ read_ahead bytes.now from }
 {
     let n = bytes.len();
-    if n < from {
-        return None;
-    }
-    if n - from < 2 {
+    if n < from || n - from < 2 {
         return None;
     }
     if starts_sample(bytes, from) {

@@ -39,6 +39,7 @@ pub fn find(bytes: &[u8], from: usize, wanted: u8) -> usize
     ensures lower_bound { (from ≤ result) × (result - from ≤ length bytes.now - from) }
 {
     let stop = bytes.len().saturating_sub(15);
+    // Kept (no plainer): the place, which moves by sixteen, is where the rest of the search starts.
     let mut e = from;
     while e < stop {
         if none_here(bytes, e, wanted) {
