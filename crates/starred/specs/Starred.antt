@@ -7,8 +7,7 @@ use Rattle.units.specs.Signed.{word_of}
 use Rattle.page_words.specs.Ranges.{word_at, within}
 use Rattle.page_judge.specs.Page.{judged}
 use Rattle.page_judge.specs.Walk.{judged-is}
-use Rattle.refusals.specs.declared.Verdict.{Verdict}
-use Rattle.refusals.specs.declared.Verdict.TheVariants.{Accepted, Refused}
+use Rattle.refusals.specs.Verdicts.{Verdict, Accepted, Refused}
 use Rattle.sample.specs.Cells.{best_of, extremes_of}
 use Rattle.sample.specs.Measure.{measure}
 use Rattle.sample.specs.Cases.{below_zero, sampled}
