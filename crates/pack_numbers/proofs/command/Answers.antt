@@ -8,5 +8,5 @@ returns-then-not-is_pack c = rw (← c.is_pack.ensures, c.if-not-is_pack.true) c
 
 pub returns : goal.returns
 unfolding commanded_numbers
-returns c = rw (← c.is_pack.ensures, c.if-not-is_pack.false, ← c.pack_of-p.ensures.0, ← c.command_any-a.ensures)
+returns c = rw (← c.is_pack.ensures, c.if-not-is_pack.false, ← c.pack_of.ensures.0, ← c.command_any-verdict.ensures)
     c.call_of.ensures

@@ -4,4 +4,4 @@ use Rattle.pack_numbers.proofs.numbers_of.Goals as goal
 
 pub returns : goal.returns
 unfolding numbers_of
-returns c = rw (c.number_of.ensures, c.guards_of-guards.ensures)
+returns c = rw (c.from.ensures, c.guards_of.ensures)

@@ -8,5 +8,5 @@ returns-then-not-is_pack c = rw (← c.is_pack.ensures, c.if-not-is_pack.true) c
 
 pub returns : goal.returns
 unfolding offered_numbers
-returns c = rw (← c.is_pack.ensures, c.if-not-is_pack.false, ← c.pack_of-p.ensures.0, ← c.offer_watched-a.ensures)
+returns c = rw (← c.is_pack.ensures, c.if-not-is_pack.false, ← c.pack_of.ensures.0, ← c.offer_watched-verdict.ensures)
     c.call_of.ensures

@@ -4,4 +4,4 @@ use Rattle.pack_numbers.proofs.pack_of.Goals as goal
 
 pub returns : goal.returns
 unfolding pack_of
-returns c = (rw (c.watch_of-watch.ensures, c.protections_of-protections.ensures), c.watch_of-watch.ensures)
+returns c = (rw (c.watch_of.ensures, c.protections_of-protections.ensures), c.watch_of.ensures)

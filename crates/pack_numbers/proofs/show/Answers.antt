@@ -8,4 +8,4 @@ returns-then-not-is_pack c = c.not_shown.ensures ∙ shown-no _ (sym c.is_pack.e
 
 pub returns : goal.returns
 unfolding shown_of
-returns c = shown-yes _ _ _ (sym c.is_pack.ensures ∙ c.if-not-is_pack.false) c.pack_of-p.ensures.0 c.decide-d.ensures
+returns c = shown-yes _ _ _ (sym c.is_pack.ensures ∙ c.if-not-is_pack.false) c.pack_of.ensures.0 c.decide-d.ensures
