@@ -8,5 +8,7 @@ pub mod TooFew
 pub mod StepLaws
 -- A cell is bled exactly if it is taken when the walk reaches it, and the code's walk up to the cell has taken the same.
 pub mod Reached
+-- The code's walk, turn by turn.
+pub mod Walked
 -- What a pack keeps for bleeding is what the history says; one step of the code's leads to what the longer history says.
 pub mod Balance

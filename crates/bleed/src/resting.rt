@@ -6,14 +6,15 @@ use laws::{has_bit, next_run, with_bit_if};
 use units::CellNo;
 
 // The cell after a cell, from n to 1: so the start cell goes on from sample to sample, and the walk from cell to cell.
+#[tactic(auto, unfolding(crate::specs::Resting::Steps::next_cell))]
 pub fn next_cell(n: u8, cell: CellNo) -> CellNo
     ensures { result ≡ record { 0 = next_cell n cell.0 } }
 {
-    let k = cell.0;
-    if k < n {
-        return CellNo(k + 1);
+    if cell.0 < n {
+        CellNo(cell.0 + 1)
+    } else {
+        CellNo(1)
     }
-    CellNo(1)
 }
 
 // The run counters after a sample, for each of the ten cells at how many of the latest in a row it was bled.
@@ -25,12 +26,8 @@ pub fn next_runs(bled: u16, runs: [u8; 10]) -> [u8; 10]
         return [0; 10];
     }
     let mut next = runs;
-    let mut i: u8 = 0;
-    while i < 10 {
-        let at = i as usize;
-        let on = has_bit(bled, i);
-        next[at] = next_run(on, next[at]);
-        i += 1;
+    for (i, run) in next.iter_mut().enumerate() {
+        *run = next_run(has_bit(bled, i as u8), *run);
     }
     next
 }
@@ -51,11 +48,9 @@ pub fn resting_word(n: u8, limit: u8, bled: u16, runs: [u8; 10]) -> u16
         return 0;
     }
     let mut word: u16 = 0;
-    let mut i: u8 = 0;
-    while i < 10 {
-        let on = rests_one(n, limit, i, runs[i as usize]);
-        word = with_bit_if(word, i, on);
-        i += 1;
+    for (i, run) in runs.iter().enumerate() {
+        let on = rests_one(n, limit, i as u8, *run);
+        word = with_bit_if(word, i as u8, on);
     }
     word
 }
