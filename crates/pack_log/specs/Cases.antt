@@ -1,6 +1,6 @@
 -- Worked logs, computed: the lines of a log one behind the other, and its events.
 -- Assumes nothing.
-use Rattle.std.specs.Prelude.{◌≡◌, refl, [], ◌∷◌, map, negsuc}
+use Rattle.std.specs.Prelude.{◌≡◌, refl, [], ◌∷◌, map, negsuc, None}
 use Rattle.text_fields.specs.Quoted.{quoted}
 use Rattle.text_fields.specs.Finding.{before, lacks}
 use Rattle.text_fields.specs.Fields.{fields_of}
@@ -10,11 +10,11 @@ use Rattle.pack.specs.Events.{offer, command}
 use Rattle.log_lines.specs.Lines.{lines_of, next_line}
 use Rattle.log_entries.specs.Entry.{malformed, command as said, read_command, cells_from, second_from, first_from, read_sample, fields_say, read_entry}
 use Rattle.log_answers.specs.Says.{events_behind}
-use Rattle.pack_log.specs.Next.{next_at, none_from, next_entry}
+use Rattle.pack_log.specs.Next.{next_at, next_entry}
 use Rattle.pack_log.specs.Run.{events_of}
 
 -- a command, an empty line, and one that does not end: where the line behind it starts, and what it says
-pub next-entries : map (next_entry (quoted "F\t3\n\nF\t2")) (0 ∷ 4 ∷ 5 ∷ []) ≡ next_at 4 (said 3) ∷ next_at 5 malformed ∷ none_from 5 ∷ []
+pub next-entries : map (next_entry (quoted "F\t3\n\nF\t2")) (0 ∷ 4 ∷ 5 ∷ []) ≡ next_at 4 (said 3) ∷ next_at 5 malformed ∷ None ∷ []
 unfolding next_entry next_line before read_entry fields_say read_sample read_command lacks fields_of number_to digits_to read_signed
 next-entries = refl
 

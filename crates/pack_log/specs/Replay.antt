@@ -1,6 +1,6 @@
 -- THE REPLAY: what it writes for a page and a log, bytes to bytes; and the same for a log that is cut anywhere.
 -- Assumes nothing.
-use Rattle.std.specs.Prelude.{ℕ, ◌+◌, ◌-◌, ◌≤◌, ◌≡◌, refl, Bool, true, List, [], ◌∷◌, ◌++◌, length, take, drop}
+use Rattle.std.specs.Prelude.{ℕ, ◌+◌, ◌-◌, ◌≤◌, ◌≡◌, refl, Bool, true, List, [], ◌∷◌, ◌++◌, length, take, drop, Ok, Err}
 use Rattle.std.proofs.Common.{sym, ap, ◌∙◌, arith, ne_eqb}
 use Rattle.text_writing.specs.Placing.{Put}
 use Rattle.log_lines.specs.Walking.{Ended}
@@ -9,8 +9,7 @@ use Rattle.log_lines.specs.Output as any
 use Rattle.log_lines.specs.Chunk as cut
 use Rattle.log_lines.specs.Run as run
 use Rattle.log_lines.specs.Run.{closing}
-use Rattle.refusals.specs.declared.Verdict.{Verdict}
-use Rattle.refusals.specs.declared.Verdict.TheVariants as verdict
+use Rattle.refusals.specs.Verdicts.{Verdict}
 use Rattle.pack_state.specs.declared.Pack.{Pack}
 use Rattle.pack.specs.declared.Answered.{Answered}
 use Rattle.pack.specs.Kept.{after_load}
@@ -41,8 +40,8 @@ pack_behind = behind_log next_pack
 
 -- A refused page: its log is not looked at.
 abbrev pub lines_for : Verdict → Pack → List ℕ → List ℕ
-lines_for verdict.Accepted p log = output p log
-lines_for (verdict.Refused number word) p log = []
+lines_for (Ok tt) p log = output p log
+lines_for (Err r) p log = []
 
 -- What the replay writes: the line of a refused page, or else the header, "then one line per log line".
 unfoldable pub replayed : List ℕ → List ℕ → List ℕ

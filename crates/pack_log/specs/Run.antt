@@ -8,7 +8,7 @@ use mathlib.Core.List.{List, [], ◌∷◌, ◌++◌, append-nil}
 use Rattle.log_lines.specs.Lines.{lines_of}
 use Rattle.log_lines.specs.Folded.{behind_lines, behind_log}
 use Rattle.log_lines.specs.Run.{closing, Round, read_in, written_in, state_behind, held_behind, done_behind, Ran, whole-log}
-use Rattle.refusals.specs.declared.Verdict.TheVariants as verdict
+use Rattle.refusals.specs.Verdicts as verdict
 use Rattle.pack_state.specs.declared.Pack.{Pack}
 use Rattle.pack.specs.Events.{Event}
 use Rattle.pack.specs.Kept.{after_load}

@@ -4,11 +4,11 @@ ghost use Rattle.refusals.specs.Answers.{answer_of};
 ghost use Rattle.refusals.specs.Refusals.{given};
 ghost use Rattle.page_judge.specs.Page.{refusals};
 ghost use Rattle.text_writing.specs.Placing.{Put};
-ghost use Rattle.pack.specs.Kept.{Kept, after_load};
+ghost use Rattle.pack.specs.Kept.{after_load};
 ghost use Rattle.log_lines.specs.Run.{closing};
 ghost use Rattle.log_texts.specs.Room.{Opened};
 
-use pack_state::Pack;
+use pack::{Answered, Keeper};
 use refusals::Verdict;
 
 // Where a log starts: what the page judge says, the bytes written, and the pack.
@@ -16,7 +16,7 @@ use refusals::Verdict;
 pub struct Begun {
     pub verdict: Verdict,
     pub written: usize,
-    pub pack: Pack,
+    pub pack: Keeper,
 }
 
 // The end of the log: the last line, where it does not end, gets its newline behind the `held` bytes that are left, so that it can be
@@ -36,15 +36,12 @@ pub fn begin(page: &[u8], out: &mut [u8]) -> Begun
     ensures verdict_value { (result.verdict ≡ (after_load page.now).verdict) × (result.pack ≡ (after_load page.now).pack) }
     ensures verdict_value_2 { answer_of result.verdict ≡ given (refusals page.now) }
     ensures opened { Opened out.old result.verdict result.written out.new }
-    ensures kept { Kept result.pack }
 {
-    let a = pack::load(page);
-    let verdict = a.verdict;
-    let p = a.pack;
+    let Answered { verdict, pack } = pack::load(page);
     let written = log_texts::put_opening(out, verdict);
     Begun {
-        verdict: verdict,
-        written: written,
-        pack: p,
+        verdict,
+        written,
+        pack,
     }
 }

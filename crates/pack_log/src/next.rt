@@ -2,44 +2,29 @@
 ghost use Rattle.std.specs.Prelude.{◌≡◌};
 ghost use Rattle.pack_log.specs.Next.{next_entry};
 
-use log_entries::Entry;
+use log_entries::{Ahead, Entry};
 use log_lines::NextLine;
 
-// The next line of a buffer as a value: whether no newline is left; if one is, where the line behind it starts, and what the line says.
-// Where none is left, they are where it was looked for and a malformed line.
+// The next line of a buffer: what it says, and where the line behind it starts.
 #[derive(Clone, Copy)]
 pub struct NextEntry {
-    pub unfinished: bool,
-    pub next: usize,
     pub entry: Entry,
+    pub next: usize,
 }
 
-// The next line of the bytes from `from` on. Most are samples, and those are read along; the newline of any other is looked for first.
-pub fn next_entry(bytes: &[u8], from: usize) -> NextEntry
+// The next line of the bytes from `from` on, if a newline is left. Most are samples, and those are read along; the newline of any other is looked
+// for first.
+pub fn next_entry(bytes: &[u8], from: usize) -> Option<NextEntry>
     ensures { result ≡ next_entry bytes.now from }
 {
-    let a = log_entries::read_ahead(bytes, from);
-    let ahead = a.entry;
-    if a.found {
-        return NextEntry {
-            unfinished: false,
-            next: a.end + 1,
-            entry: ahead,
-        };
+    if let Some(Ahead { end, entry }) = log_entries::read_ahead(bytes, from) {
+        return Some(NextEntry {
+            entry,
+            next: end + 1,
+        });
     }
-    let n = log_lines::next_line(bytes, from);
-    let NextLine::Ends { end, next } = n else {
-        return NextEntry {
-            unfinished: true,
-            next: from,
-            entry: ahead,
-        };
-    };
+    let NextLine { end, next } = log_lines::next_line(bytes, from)?;
     let line = &bytes[from..end];
-    let e = log_entries::read_entry(line);
-    NextEntry {
-        unfinished: false,
-        next: next,
-        entry: e,
-    }
+    let entry = log_entries::read_entry(line);
+    Some(NextEntry { entry, next })
 }

@@ -40,7 +40,7 @@ module _ (text o : List ℕ) (s : Pack) (x y : Chunk) (e f : List ℕ) (p : Answ
 answer-chunk-one : (κs : Lfts 2) (a : Dens κs answer-chunk-kinds.ps) (x y : (res_t answer-chunk-kinds.r κs).Denot)
     (s t : AtExit (ended_of 2 answer-chunk-kinds.ps answer-chunk-kinds.r) κs)
     → answer-chunk.Post κs a x s → answer-chunk.Post κs a y t → (x ≡ y) × (s.1.1.0.now ≡ t.1.1.0.now)
-answer-chunk-one κs a x y s t p q = chunk-one _ _ _ x y _ _ p.0 q.0
+answer-chunk-one κs a x y s t p q = chunk-one _ _ _ x y _ _ p q
 
 -- ---- feeding
 
@@ -67,4 +67,4 @@ module _ (buf d : List ℕ) (s : Pack) (x y : Fed) (b b' e e' : List ℕ) (p : F
 feed-one : (κs : Lfts 2) (a : Dens κs feed-kinds.ps) (x y : (res_t feed-kinds.r κs).Denot)
     (s t : AtExit (ended_of 2 feed-kinds.ps feed-kinds.r) κs)
     → feed.Post κs a x s → feed.Post κs a y t → (x ≡ y) × (s.1.0.now ≡ t.1.0.now) × (s.1.1.0.now ≡ t.1.1.0.now)
-feed-one κs a x y s t p q = fed-one _ _ _ x y _ _ _ _ p.0 q.0
+feed-one κs a x y s t p q = fed-one _ _ _ x y _ _ _ _ p q

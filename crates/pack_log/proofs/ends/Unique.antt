@@ -6,7 +6,7 @@ use borrow.Fn.Kinds.{Dens, res_t, ended_of}
 use contract.Lifetimes.{Lfts}
 use denote.Triple.Clauses.{AtExit}
 use Rattle.text_writing.specs.Putting.{put-one}
-use Rattle.refusals.specs.declared.Verdict.{Verdict}
+use Rattle.refusals.specs.Verdicts.{Verdict}
 use Rattle.pack_state.specs.declared.Pack.{Pack}
 use Rattle.pack_log.specs.declared.ends.Begun.{Begun}
 use Rattle.log_texts.specs.Room.{opened-one}
@@ -30,5 +30,5 @@ begin-one : (κs : Lfts 2) (a : Dens κs begin-kinds.ps) (x y : (res_t begin-kin
 begin-one κs a x y s t p q =
     let v : x.verdict ≡ y.verdict = p.0.0 ∙ sym q.0.0 in
     let k : x.pack ≡ y.pack = p.0.1 ∙ sym q.0.1 in
-    let o = opened-one p.1.1.0 (rw (sym v) at q.1.1.0) in
+    let o = opened-one p.1.1 (rw (sym v) at q.1.1) in
     (begun-same v k o.0, o.1)

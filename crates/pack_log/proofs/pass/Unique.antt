@@ -30,7 +30,7 @@ gone-one text s x y p q =
     (chunk-state next_pack no_text 0 text [] s true true x.used y.used 0 0 x.pack y.pack [] [] p q)
 
 pass-chunk-one : Unique 1 pass-chunk-kinds.ps pass-chunk-kinds.r pass-chunk.Post
-pass-chunk-one κs a x y s t p q = gone-one _ _ x y p.0 q.0
+pass-chunk-one κs a x y s t p q = gone-one _ _ x y p q
 
 rest : Gone → ℕ → Rest
 rest g h = record { used = g.used; held = h; pack = g.pack }
@@ -57,4 +57,4 @@ module _ (buf : List ℕ) (s : Pack) (x y : Rest) (b b' : List ℕ) (p : Pass bu
 pass-one : (κs : Lfts 1) (a : Dens κs pass-kinds.ps) (x y : (res_t pass-kinds.r κs).Denot)
     (s t : AtExit (ended_of 1 pass-kinds.ps pass-kinds.r) κs)
     → pass.Post κs a x s → pass.Post κs a y t → (x ≡ y) × (s.1.0.now ≡ t.1.0.now)
-pass-one κs a x y s t p q = rest-one _ _ x y _ _ p.0 q.0
+pass-one κs a x y s t p q = rest-one _ _ x y _ _ p q

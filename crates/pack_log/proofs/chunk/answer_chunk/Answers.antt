@@ -8,32 +8,29 @@ use native.Mathlib.Omega.{arith}
 use Rattle.pack_log.proofs.chunk.answer_chunk.Goals as goal
 
 pub loop-n-init : goal.loop-n-init
-loop-n-init c = (going-start next_pack line_text room _ _ _, c.requires)
-
-pub shape_of-out-then-n : goal.shape_of-out-then-n
-shape_of-out-then-n c = c.loop-n.invariant.0.same
-
-pub returns-then-n : goal.returns-then-n
-returns-then-n c = let i = c.loop-n.invariant in
-    record { answer_chunk = going-done next_pack line_text room _ _ _ _ _ _ _ i.0 ((next-is _ _ _ c.next_entry-n.ensures).none c.if-n.true); kept = i.1 }
+loop-n-init c = going-start next_pack line_text room _ _ _
 
 pub shape_of-out-then-out-w : goal.shape_of-out-then-out-w
-shape_of-out-then-out-w c = c.loop-n.invariant.0.same
+shape_of-out-then-out-w c = c.loop-n.invariant.same
 
 pub returns-then-out-w : goal.returns-then-out-w
 returns-then-out-w c = let i = c.loop-n.invariant in
-    let e = (next-is _ _ _ c.next_entry-n.ensures).ended c.if-n.false in
-    record { answer_chunk = going-full next_pack line_text room _ _ _ _ _ _ _ i.0 _ _ e.0 c.if-out-w.true; kept = i.1 }
-
-pub tell_entry-t-requires : goal.tell_entry-t-requires
-tell_entry-t-requires c = c.loop-n.invariant.1
+    let e = next-is _ _ _ c.in-Some.ensures in
+    going-full next_pack line_text room _ _ _ _ _ _ _ i _ _ e.0 c.if-out-w.true
 
 pub loop-n-smaller : goal.loop-n-smaller
-loop-n-smaller c = let e = (next-is _ _ _ c.next_entry-n.ensures).ended c.if-n.false in
+loop-n-smaller c = let e = next-is _ _ _ c.in-Some.ensures in
     let n = e.0 in
     omega (arith, n.after, n.start, n.inside)
 
 pub loop-n-preserved : goal.loop-n-preserved
 loop-n-preserved c = let i = c.loop-n.invariant in
-    let e = (next-is _ _ _ c.next_entry-n.ensures).ended c.if-n.false in
-    (chunk-on _ _ _ _ _ _ _ i.0 _ _ e.0 c.if-out-w.false _ (tell-read _ _ _ _ e.1 c.tell_entry-t.ensures.value) _ _ c.put_told-w.ensures.t_len_bound c.put_told-w.ensures.put, c.tell_entry-t.ensures.kept)
+    let e = next-is _ _ _ c.in-Some.ensures in
+    chunk-on _ _ _ _ _ _ _ i _ _ e.0 c.if-out-w.false _ (tell-read _ _ _ _ e.1 c.tell_entry-t.ensures) _ _ c.put_told-w.ensures.t_len_bound c.put_told-w.ensures.put
+
+pub shape_of-out : goal.shape_of-out
+shape_of-out c = c.loop-n.invariant.same
+
+pub returns : goal.returns
+returns c = let i = c.loop-n.invariant in
+    going-done next_pack line_text room _ _ _ _ _ _ _ i (next-is _ _ _ c.in_default.ensures)

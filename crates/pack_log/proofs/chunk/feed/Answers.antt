@@ -5,4 +5,4 @@ use Rattle.pack_log.specs.Replay.{next_pack, line_text}
 use Rattle.pack_log.proofs.chunk.feed.Goals as goal
 
 pub returns : goal.returns
-returns c = record { feed = feed-made next_pack line_text room _ _ _ _ _ _ _ _ _ _ c.answer_chunk-r.ensures.answer_chunk c.carried-held.ensures.value c.move_down.ensures; kept = c.answer_chunk-r.ensures.kept }
+returns c = feed-made next_pack line_text room _ _ _ _ _ _ _ _ _ _ c.answer_chunk-done.ensures c.carried-held.ensures.value c.move_down.ensures

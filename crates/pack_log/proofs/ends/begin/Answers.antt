@@ -5,8 +5,7 @@ use Rattle.pack_log.proofs.ends.begin.Goals as goal
 
 pub returns : goal.returns
 returns c = record {
-  verdict_value = (ap (λ (x : Answered). x.verdict) c.load-a.ensures.value, ap (λ (x : Answered). x.pack) c.load-a.ensures.value);
-  verdict_value_2 = c.load-a.ensures.verdict_value;
+  verdict_value = (ap (λ (x : Answered). x.verdict) c.load-verdict.ensures.value, ap (λ (x : Answered). x.pack) c.load-verdict.ensures.value);
+  verdict_value_2 = c.load-verdict.ensures.verdict_value;
   opened = c.put_opening-written.ensures;
-  kept = c.load-a.ensures.kept;
 }

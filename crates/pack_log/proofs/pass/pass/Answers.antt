@@ -4,4 +4,4 @@ use Rattle.pack_log.specs.Replay.{next_pack, no_text}
 use Rattle.pack_log.proofs.pass.pass.Goals as goal
 
 pub returns : goal.returns
-returns c = record { pass = feed-made next_pack no_text 0 _ _ _ _ _ _ _ _ _ _ c.pass_chunk-r.ensures.pass_chunk c.carried-held.ensures.value c.move_down.ensures; kept = c.pass_chunk-r.ensures.kept }
+returns c = feed-made next_pack no_text 0 _ _ _ _ _ _ _ _ _ _ c.pass_chunk-used.ensures c.carried-held.ensures.value c.move_down.ensures
