@@ -4,6 +4,7 @@ use Rattle.std.specs.Prelude.{ℕ, suc, Bool, false, cond, List, [], ◌∷◌, 
 use Rattle.units.specs.declared.MilliVolts.{MilliVolts}
 use Rattle.sample.specs.Cells.{no_volts}
 use Rattle.sample.specs.None.{no_sample}
+use Rattle.sample.specs.declared.Sample.{Sample}
 use Rattle.text_fields.specs.Finding.{lacks}
 use Rattle.text_fields.specs.Fields.{fields_of}
 use Rattle.text_numbers.specs.Numbers.{read_number, read_signed}
@@ -27,6 +28,11 @@ offer current t1 t2 count cells =
       command = 0;
       sample = record { count = count; cells = cells; current = current; t1 = record { 0 = t1 }; t2 = record { 0 = t2 } };
     }
+
+-- The line of a sample; where there is none, a malformed line.
+abbrev pub entry_of : Option Sample → Entry
+entry_of (Some s) = record { kind = Offer; command = 0; sample = s }
+entry_of None = malformed
 
 -- ---- fields
 

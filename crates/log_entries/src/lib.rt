@@ -2,12 +2,12 @@
 
 #![tactic(auto)]
 
-ghost use Rattle.std.specs.Prelude.{◌≡◌, [], ◌+◌, ◌≤◌, length, get_or};
+ghost use Rattle.std.specs.Prelude.{◌≡◌, [], ◌+◌, ◌≤◌, length, Some};
 ghost use Rattle.text_fields.specs.Fields.{fields_of};
-ghost use Rattle.log_entries.specs.Entry.{malformed, offer, read_command, read_sample, read_entry};
+ghost use Rattle.log_entries.specs.Entry.{malformed, entry_of, read_command, read_sample, read_entry};
 ghost use Rattle.log_entries.specs.Left.{left};
-ghost use Rattle.log_entries.specs.InTurn.{cells_of, read_numbers, behind};
-ghost use Rattle.log_entries.specs.Ahead.{rest_of, end_from, found_as, found_in, read_ahead, starts_sample};
+ghost use Rattle.log_entries.specs.InTurn.{read_numbers, behind};
+ghost use Rattle.log_entries.specs.Ahead.{rest_of, end_from, found_in, read_ahead, starts_sample};
 
 use sample::{Sample, no_sample};
 use text_number_at::{FieldNumber, four_tabbed, number_along, number_at};
@@ -63,25 +63,37 @@ fn read_command(line: &[u8], at: usize) -> Entry
     }
 }
 
-// An `S` line's sample, from its current and its numbers: behind the current's the two temperatures and `count` cells.
-fn offered(current: i16, numbers: [u16; 13], count: u8) -> Entry
-    ensures { result ≡ offer current (get_or numbers 1 0) (get_or numbers 2 0) count (cells_of numbers) }
+// The line of a sample.
+fn offered(sample: Sample) -> Entry
+    ensures { result ≡ entry_of (Some sample) }
 {
+    Entry {
+        kind: Kind::Offer,
+        command: 0,
+        sample,
+    }
+}
+
+// The sample of an `S` line that has these numbers, and no more: behind the current's the two temperatures and the cells.
+fn sampled(below: bool, numbers: [u16; 13], count: usize) -> Option<Sample>
+    requires { count ≤ 13 }
+    ensures { entry_of result ≡ behind below count numbers [] }
+{
+    if count < 3 {
+        return None;
+    }
+    let current = with_sign(below, numbers[0])?;
     let mut cells = [MilliVolts(0); 10];
     for i in 0..10 {
         cells[i] = MilliVolts(numbers[i + 3]);
     }
-    Entry {
-        kind: Kind::Offer,
-        command: 0,
-        sample: Sample {
-            count,
-            cells,
-            current,
-            t1: DeciKelvin(numbers[1]),
-            t2: DeciKelvin(numbers[2]),
-        },
-    }
+    Some(Sample {
+        count: (count - 3) as u8,
+        cells,
+        current,
+        t1: DeciKelvin(numbers[1]),
+        t2: DeciKelvin(numbers[2]),
+    })
 }
 
 // The numbers of an `S` line, whose fields from `from` on are read alike, thirteen at most; `below` says that a minus stands before them.
@@ -104,13 +116,10 @@ fn read_numbers(line: &[u8], from: usize, below: bool) -> Entry
         count += 1;
         at = end + 1;
     }
-    if count < 3 {
-        return no_entry();
+    match sampled(below, numbers, count) {
+        Some(sample) => offered(sample),
+        None => no_entry(),
     }
-    let Some(current) = with_sign(below, numbers[0]) else {
-        return no_entry();
-    };
-    offered(current, numbers, (count - 3) as u8)
 }
 
 // `S` has current, temperature 1, temperature 2 and the cells; only the current may have a minus.
@@ -143,19 +152,6 @@ pub struct Ahead {
     pub entry: Entry,
 }
 
-// The line up to `end` has these numbers, and no more.
-fn all_read(below: bool, numbers: [u16; 13], count: usize, end: usize) -> Option<Ahead>
-    requires { count ≤ 13 }
-    ensures { result ≡ found_as end (behind below count numbers []) }
-{
-    if count < 3 {
-        return None;
-    }
-    let current = with_sign(below, numbers[0])?;
-    let entry = offered(current, numbers, (count - 3) as u8);
-    Some(Ahead { end, entry })
-}
-
 // The numbers of an `S` line from `from` on, up to its newline. Most have four digits and a tab behind them, which is asked first.
 fn numbers_ahead(bytes: &[u8], from: usize, below: bool) -> Option<Ahead>
     ensures { result ≡ found_in bytes.now (end_from bytes.now from) (read_numbers below (fields_of (rest_of bytes.now from))) }
@@ -177,7 +173,11 @@ fn numbers_ahead(bytes: &[u8], from: usize, below: bool) -> Option<Ahead>
         numbers[count] = number;
         count += 1;
         if bytes[end] == b'\n' {
-            return all_read(below, numbers, count, end);
+            let sample = sampled(below, numbers, count)?;
+            return Some(Ahead {
+                end,
+                entry: offered(sample),
+            });
         }
         at = end + 1;
     }

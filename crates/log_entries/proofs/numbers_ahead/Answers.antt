@@ -1,8 +1,9 @@
 -- `log_entries::numbers_ahead` meets its contract
-use mathlib.Core.Path.{refl, sym, ◌∙◌}
+use mathlib.Core.Path.{refl, sym, ap, ◌∙◌}
 use lib.ListN.{length-set}
 use Rattle.text_number_at.specs.Along.{along-value, tabbed-within}
 use Rattle.log_entries.specs.InTurn.{cells_of, behind}
+use Rattle.log_entries.specs.Ahead.{found, found_as}
 use Rattle.log_entries.proofs.AheadLaws.{ahead-over, ahead-none, ahead-last, ahead-next, ahead-four}
 use native.Mathlib.Omega.{arith}
 use Rattle.log_entries.proofs.numbers_ahead.Goals as goal
@@ -49,14 +50,24 @@ bounds-bytes-end c = let n = c.in_ok-number in
     let a = c.args in
     (along-value a.bytes.now l.at n.field-0.number n.field-0.end (sym n.ensures)).2
 
+pub returns-in_err-sample : goal.returns-in_err-sample
+unfolding behind
+returns-in_err-sample c = let n = c.in_ok-number in
+    let l = c.loop-count in
+    let a = c.args in
+    c.from_residual-in_err-sample.ensures
+    ∙ ap (found_as n.field-0.end) c.in_err-sample.ensures
+    ∙ ahead-last a.bytes.now l.at a.below l.count l.numbers n.field-0.number n.field-0.end (omega arith) l.invariant.1 l.invariant.2 (sym n.ensures) c.if-bytes-end-eq10.true
+    ∙ l.invariant.3
+
 pub returns-then-bytes-end-eq10 : goal.returns-then-bytes-end-eq10
 unfolding behind
 returns-then-bytes-end-eq10 c = let n = c.in_ok-number in
     let l = c.loop-count in
     let a = c.args in
-    c.all_read.ensures
-    ∙ ahead-last a.bytes.now l.at a.below l.count l.numbers n.field-0.number n.field-0.end (omega arith) l.invariant.1 l.invariant.2
-    (sym n.ensures) c.if-bytes-end-eq10.true
+    ap (found n.field-0.end) c.offered.ensures
+    ∙ ap (found_as n.field-0.end) c.in_ok-sample.ensures
+    ∙ ahead-last a.bytes.now l.at a.below l.count l.numbers n.field-0.number n.field-0.end (omega arith) l.invariant.1 l.invariant.2 (sym n.ensures) c.if-bytes-end-eq10.true
     ∙ l.invariant.3
 
 pub overflow_add-at-in-loop-count : goal.overflow_add-at-in-loop-count

@@ -1,16 +1,13 @@
 -- `log_entries::read_numbers` meets its contract
-use Rattle.std.specs.Prelude.{Option, ℤ}
 use mathlib.Core.Path.{refl, sym, ap, ◌∙◌}
-use Prim.Native.Nat.{◌+◌, ◌-◌}
-use lib.ListN.{length, get_or, length-set}
+use Prim.Native.Nat.{◌+◌}
+use lib.ListN.{length, length-set}
 use Rattle.text_fields.specs.Fields.{field_at}
 use Rattle.text_fields.specs.Splitting.{field-within}
 use Rattle.text_number_at.specs.NumberAt.{number-at-value, number-at-none}
-use Rattle.log_entries.proofs.Current.{current-same}
-use Rattle.log_entries.specs.Entry.{offer, if_signed}
 use Rattle.log_entries.specs.Left.{left, left-none, left-next}
 use Rattle.log_entries.specs.InTurn.{cells_of, behind}
-use Rattle.log_entries.proofs.InTurn.{behind-over, behind-none, behind-next, behind-few, behind-all}
+use Rattle.log_entries.proofs.InTurn.{behind-over, behind-none, behind-next}
 use native.Mathlib.Omega.{arith}
 use Rattle.log_entries.proofs.read_numbers.Goals as goal
 
@@ -53,26 +50,12 @@ loop-at-preserved c = let l = c.loop-at in
     let n = behind-next a.below f (left a.line.now (l.at + length f + 1)) l.count c.in-Some.field-0.number l.numbers (omega arith) l.invariant.2 l.invariant.3 q.0 in
     (omega arith, omega (arith, q.1, field-within a.line.now l.at (omega arith)), rw length-set l.invariant.2, n.1, rw q.1 (sym (ap (behind a.below l.count l.numbers) (left-next a.line.now l.at _ refl (omega arith)) ∙ n.0) ∙ l.invariant.4))
 
-pub returns-then-count-lt3 : goal.returns-then-count-lt3
-returns-then-count-lt3 c = let l = c.loop-at in
+pub returns-in-Some-sampled : goal.returns-in-Some-sampled
+returns-in-Some-sampled c = let l = c.loop-at in
     let a = c.args in
-    c.no_entry-then-count-lt3.ensures ∙ sym (ap (behind a.below l.count l.numbers) (left-none a.line.now l.at (omega arith)) ∙ behind-few _ l.count l.numbers c.if-count-lt3.true) ∙ l.invariant.4
+    c.offered.ensures ∙ c.in-Some-sampled.ensures ∙ sym (ap (behind a.below l.count l.numbers) (left-none a.line.now l.at (omega arith))) ∙ l.invariant.4
 
-pub returns-in_default-with_sign : goal.returns-in_default-with_sign
-returns-in_default-with_sign c = let l = c.loop-at in
+pub returns-in-None : goal.returns-in-None
+returns-in-None c = let l = c.loop-at in
     let a = c.args in
-    c.no_entry-in_default-with_sign.ensures
-    ∙ sym (ap (behind a.below l.count l.numbers) (left-none a.line.now l.at (omega arith))
-    ∙ behind-all a.below l.count l.numbers c.if-count-lt3.false
-    ∙ ap (λ (s : Option ℤ). if_signed s (λ current. offer current (get_or l.numbers 1 0) (get_or l.numbers 2 0) (l.count - 3) (cells_of l.numbers))) (sym c.with_sign.ensures ∙ c.in_default-with_sign.is))
-    ∙ l.invariant.4
-
-pub returns : goal.returns
-returns c = let l = c.loop-at in
-    let a = c.args in
-    let e = sym c.with_sign.ensures ∙ c.in-Some-with_sign.is in
-    rw (current-same a.below (get_or l.numbers 0 0) c.in-Some-with_sign.current e) at c.offered.ensures
-    ∙ sym (ap (behind a.below l.count l.numbers) (left-none a.line.now l.at (omega arith))
-    ∙ behind-all a.below l.count l.numbers c.if-count-lt3.false
-    ∙ ap (λ (s : Option ℤ). if_signed s (λ current. offer current (get_or l.numbers 1 0) (get_or l.numbers 2 0) (l.count - 3) (cells_of l.numbers))) e)
-    ∙ l.invariant.4
+    c.no_entry-in-None.ensures ∙ c.in-None.ensures ∙ sym (ap (behind a.below l.count l.numbers) (left-none a.line.now l.at (omega arith))) ∙ l.invariant.4
