@@ -1,19 +1,37 @@
 -- `pack_why::asked::asked_of` meets its contract. Assumes nothing.
-use mathlib.Core.Path.{sym, ap, ◌∙◌}
-use Rattle.pack_why.specs.Asked.{number_asked, asked-charge, asked-discharge, asked-number}
+use Rattle.std.proofs.Common.{◌≡◌, ℕ, Bool, Some, None, List, [], ◌∷◌, ◌&&◌, eqb, refl, sym, ap, ◌∙◌}
+use Rattle.std.specs.Cmp.Lexicographic.{pointwise}
+use Rattle.pack_why.specs.Asked.{same_text, asked-charge, asked-discharge, asked-number}
 use Rattle.pack_why.proofs.asked.asked_of.Goals as goal
 
-pub returns-then-same_text : goal.returns-then-same_text
-returns-then-same_text c = asked-charge _ (sym c.same_text.ensures ∙ c.if-same_text.true)
+-- The library's comparison of two texts.
+same : (a b : List ℕ) → pointwise eqb a b ≡ same_text a b
+unfolding same_text
+same [] [] = refl
+same [] (y ∷ b) = refl
+same (x ∷ a) [] = refl
+same (x ∷ a) (y ∷ b) = ap (λ r. eqb x y && r) (same a b)
 
-pub returns-then-same_text-2 : goal.returns-then-same_text-2
-returns-then-same_text-2 c = asked-discharge _ (sym c.same_text.ensures ∙ c.if-same_text.false) (sym c.same_text-2.ensures ∙ c.if-same_text-2.true)
+-- What the code's comparison with a word says.
+said : (what word text : List ℕ) (r answer : Bool) → r ≡ pointwise eqb what word → word ≡ text → r ≡ answer → same_text what text ≡ answer
+said what word text r answer e w t = sym (same what text) ∙ ap (pointwise eqb what) (sym w) ∙ sym e ∙ t
 
-pub returns-in-Value : goal.returns-in-Value
-returns-in-Value c = rw c.cell_of-cell.ensures
-    (ap number_asked (sym c.in-Value.is)
-    ∙ asked-number _ (sym c.same_text.ensures ∙ c.if-same_text.false) (sym c.same_text-2.ensures ∙ c.if-same_text-2.false) _ c.read_number-number.ensures)
+pub returns-then-eq : goal.returns-then-eq
+returns-then-eq c = asked-charge _ (said _ _ _ _ _ c.eq.ensures c.as_slice.ensures c.if-eq.true)
 
-pub returns-in-Malformed : goal.returns-in-Malformed
-returns-in-Malformed c = ap number_asked (sym c.in-Malformed.is)
-    ∙ asked-number _ (sym c.same_text.ensures ∙ c.if-same_text.false) (sym c.same_text-2.ensures ∙ c.if-same_text-2.false) _ c.read_number-number.ensures
+pub returns-then-eq-2 : goal.returns-then-eq-2
+returns-then-eq-2 c =
+    asked-discharge _ (said _ _ _ _ _ c.eq.ensures c.as_slice.ensures c.if-eq.false)
+    (said _ _ _ _ _ c.eq-2.ensures c.as_slice-2.ensures c.if-eq-2.true)
+
+pub returns-in_err-number : goal.returns-in_err-number
+returns-in_err-number c =
+    c.from_residual.ensures
+    ∙ asked-number _ (said _ _ _ _ _ c.eq.ensures c.as_slice.ensures c.if-eq.false)
+    (said _ _ _ _ _ c.eq-2.ensures c.as_slice-2.ensures c.if-eq-2.false) None c.in_err-number.ensures
+
+pub returns : goal.returns
+returns c =
+    rw c.cell_of.ensures
+    (asked-number _ (said _ _ _ _ _ c.eq.ensures c.as_slice.ensures c.if-eq.false)
+    (said _ _ _ _ _ c.eq-2.ensures c.as_slice-2.ensures c.if-eq-2.false) (Some c.in_ok-number.number) c.in_ok-number.ensures)

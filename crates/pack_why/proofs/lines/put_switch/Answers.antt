@@ -6,4 +6,4 @@ pub returns-then-out-lt-REASON : goal.returns-then-out-lt-REASON
 returns-then-out-lt-REASON c = let both = roomed-not _ _ _ c.if-out-lt-REASON.true in record { put = both.0; upper_bound = both.1 }
 
 pub returns : goal.returns
-returns c = let both = (roomed-put 21 _ _ _ _ c.if-out-lt-REASON.false c.put_switch_reason.ensures.why_len_bound c.put_switch_reason.ensures.put) in record { put = rw (← c.why_switch-why.ensures) both.0; upper_bound = both.1 }
+returns c = let both = (roomed-put 21 _ _ _ _ c.if-out-lt-REASON.false c.put_switch_reason.ensures.why_len_bound c.put_switch_reason.ensures.put) in record { put = rw (← c.why_switch.ensures) both.0; upper_bound = both.1 }
