@@ -14,7 +14,7 @@ use Rattle.crc.specs.CheckByte.{check_byte}
 use Rattle.protections.specs.Direction.{reaches, back_of}
 use Rattle.protections.specs.Table.{row_at}
 use Rattle.refusals.specs.Refusals.{NoFault, Lowest}
-use Rattle.refusals.specs.declared.Verdict.TheVariants.{Accepted, Refused}
+use Rattle.refusals.specs.Verdicts.{Accepted, Refused}
 use Rattle.text_fields.specs.Decimal.{decimal}
 use Rattle.text_numbers.specs.Numbers.{signed_text}
 use Rattle.text_numbers.specs.Canonical.{InRange}
@@ -49,13 +49,13 @@ use Rattle.pack_shown.specs.Shown.{switch_after, switches_word, first_mode, mode
 use Rattle.bus_table.specs.Table.{row_of_command}
 use Rattle.bus_words.specs.Words.{status_word, sent_word, said_of, word_after}
 use Rattle.bus_words.proofs.Demands.{word-is}
-use Rattle.bus.specs.declared.answer.Replied.TheVariants as reply
+use Rattle.bus.specs.Replied as reply
 use Rattle.bus.specs.Replies.{reply_refusals, answer_to, answer_after, buffer_of, buffer_after}
 use Rattle.bus.specs.Demands as bus
 use Rattle.log_entries.specs.Entry as entry
 use Rattle.log_entries.specs.Entry.{read_entry}
 use Rattle.log_lines.specs.Lines.{lines_of}
-use Rattle.log_answers.specs.declared.Told.TheVariants as told
+use Rattle.log_answers.specs.Told as told
 use Rattle.log_answers.specs.Says.{says}
 use Rattle.log_answers.proofs.Says.{line-told}
 use Rattle.log_answers.specs.Tell.{tell}

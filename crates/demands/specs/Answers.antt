@@ -1,24 +1,23 @@
 -- What a page, a sample, a command, a reply and a line are answered with: each refusal exactly when its row says, and what it leaves as it
 -- was.
 -- Assumes nothing.
-use Rattle.std.specs.Prelude.{◌≡◌, true, false, List, ◌⊎◌, ◌↔◌, ℕ}
+use Rattle.std.specs.Prelude.{◌≡◌, Ok, Err, true, false, List, ◌⊎◌, ◌↔◌, ℕ}
 use Rattle.std.proofs.Math.Path.{refl}
 use Rattle.std.proofs.Common.{true≢false, inl, inr}
 use Rattle.refusals.specs.Refusals.{Refusal, NoFault, Lowest, none-exactly, refuse-exactly}
-use Rattle.refusals.specs.declared.Verdict.{Verdict}
-use Rattle.refusals.specs.declared.Verdict.TheVariants.{Accepted, Refused}
+use Rattle.refusals.specs.Verdicts.{Verdict, Accepted, Refused}
 use Rattle.page_judge.specs.Exactly.{refused-not, refused-one}
 use Rattle.sample.specs.declared.Sample.{Sample}
 use Rattle.pack_refusals.specs.Samples.{sample_refusals, sample_verdict, command_refusals, command_verdict}
 use Rattle.pack_state.specs.declared.Pack.{Pack}
 use Rattle.pack.specs.Answers.{offered, commanded}
-use Rattle.bus.specs.declared.answer.Replied.{Replied}
-use Rattle.bus.specs.declared.answer.Replied.TheVariants as reply
+use Rattle.bus.specs.Replied.{Replied}
+use Rattle.bus.specs.Replied as reply
 use Rattle.log_entries.specs.declared.Kind.{Kind}
 use Rattle.log_entries.specs.declared.Kind.TheVariants.{Offer, Command, Malformed}
 use Rattle.log_entries.specs.declared.Entry.{Entry}
 use Rattle.log_entries.specs.Entry.{read_entry}
-use Rattle.log_answers.specs.declared.Told.TheVariants as told
+use Rattle.log_answers.specs.Told as told
 use Rattle.log_answers.specs.Tell.{told_of, answered_as, outcome_of, tell}
 
 -- ---- an answer
@@ -29,8 +28,8 @@ IsAnswered v rows = ((v ≡ Accepted) × NoFault rows) ⊎ ((k : ℕ) × (w : �
 
 pub is-answered : (v : Verdict) (rows : List Refusal) → ((v ≡ Accepted) ↔ NoFault rows)
     → ((k w : ℕ) → (v ≡ Refused k w) ↔ Lowest rows k w) → IsAnswered v rows
-is-answered Accepted rows none some = inl (refl, none.0 refl)
-is-answered (Refused k w) rows none some = inr (k, w, refl, (some k w).0 refl)
+is-answered (Ok done) rows none some = inl (refl, none.0 refl)
+is-answered (Err r) rows none some = inr (r.number, r.word, refl, (some r.number r.word).0 refl)
 
 -- The same for a reply, whose refusals name word 0.
 abbrev pub IsReplied : Replied → List Refusal → Type 0
@@ -38,8 +37,8 @@ IsReplied r rows = ((r ≡ reply.Sent) × NoFault rows) ⊎ ((k : ℕ) × (r ≡
 
 pub is-replied : (r : Replied) (rows : List Refusal) → ((r ≡ reply.Sent) ↔ NoFault rows)
     → ((k : ℕ) → (r ≡ reply.Refused k) ↔ Lowest rows k 0) → IsReplied r rows
-is-replied reply.Sent rows none some = inl (refl, none.0 refl)
-is-replied (reply.Refused k) rows none some = inr (k, refl, (some k).0 refl)
+is-replied (Ok done) rows none some = inl (refl, none.0 refl)
+is-replied (Err k) rows none some = inr (k, refl, (some k).0 refl)
 
 -- ---- samples and commands
 
@@ -81,8 +80,8 @@ unfolding tell outcome_of
 refused-line-untouched p line k = by-kind (read_entry line).kind (read_entry line)
   where
     told-refused : (v : Verdict) (q : Pack) → told_of v q ≡ told.Refused k → ((j w : ℕ) → v ≡ Refused j w → q ≡ p) → q ≡ p
-    told-refused Accepted q e kept = absurd (let z : true ≡ false = cc in true≢false z)
-    told-refused (Refused j w) q e kept = kept j w refl
+    told-refused (Ok done) q e kept = absurd (let z : true ≡ false = cc in true≢false z)
+    told-refused (Err r) q e kept = kept r.number r.word refl
 
     by-kind : (kind : Kind) (e : Entry) → (outcome_of kind (answered_as kind p e)).told ≡ told.Refused k
         → (outcome_of kind (answered_as kind p e)).pack ≡ p

@@ -9,7 +9,7 @@ use Rattle.refusals.specs.Answers.{answer_of}
 use Rattle.sample.specs.Cases as sample
 use Rattle.sample.specs.Cases.{below_zero}
 use Rattle.protections.specs.declared.Limits.{Limits}
-use Rattle.refusals.specs.declared.Verdict.TheVariants.{Accepted}
+use Rattle.refusals.specs.Verdicts.{Accepted}
 use Rattle.page_settings.specs.declared.Settings.{Settings}
 use Rattle.page_settings.specs.declared.Loaded.{Loaded}
 use Rattle.page_settings.specs.Settings.{absent, no_settings, loaded_of}

@@ -5,14 +5,14 @@ use Rattle.std.specs.Prelude.{ℕ, ◌≡◌}
 use Rattle.std.proofs.Math.Path.{refl, ap, ap₂}
 use Rattle.std.proofs.Common.{◌∙◌}
 use mathlib.Core.List.{List, [], ◌∷◌, ◌++◌}
-use Rattle.refusals.specs.declared.Verdict.TheVariants as verdict
+use Rattle.refusals.specs.Verdicts as verdict
 use Rattle.pack_state.specs.declared.Pack.{Pack}
 use Rattle.pack.specs.Events.{Event}
 use Rattle.pack.specs.Kept.{after_load}
 use Rattle.pack.specs.After.{after}
 use Rattle.log_lines.specs.Lines.{lines_of}
 use Rattle.log_lines.specs.Output as any
-use Rattle.log_answers.specs.declared.Told.{Told}
+use Rattle.log_answers.specs.Told.{Told}
 use Rattle.log_answers.specs.Says.{events_with, says}
 use Rattle.log_answers.proofs.Says.{line-told, line-pack}
 use Rattle.log_texts.specs.Texts.{told_text, header_text}

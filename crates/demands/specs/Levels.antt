@@ -13,7 +13,7 @@ use Rattle.protections.specs.declared.Quantity.TheVariants.{HighestCell, LowestC
 use Rattle.page_words.specs.Ranges.{word_at, level_fits, level_of}
 use Rattle.page_judge.specs.Page.{judged}
 use Rattle.page_judge.specs.Accepted.{accepted-limits}
-use Rattle.refusals.specs.declared.Verdict.TheVariants.{Accepted}
+use Rattle.refusals.specs.Verdicts.{Accepted}
 use Rattle.page_settings.specs.Settings.{in_degrees, twice_tenths, sample_level, limits_from, page_protections}
 use Rattle.page_settings.specs.Degrees.{level-exact}
 use Rattle.sample.specs.declared.Sample.{Sample}

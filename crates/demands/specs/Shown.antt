@@ -1,7 +1,7 @@
 -- What `decide` shows of a pack after a load of any bytes and any calls, and what it showed at each accepted sample since the load: each
 -- field is what document 01 says of the page and the past.
 -- Assumes nothing.
-use Rattle.std.specs.Prelude.{◌≡◌, refl, Bool, true, false, not, cond, ◌&&◌, List, [], ◌∷◌, map, ◌↔◌, ℕ, zero, suc, ◌+◌, ◌*◌, ◌≤◌, ◌<◌, length}
+use Rattle.std.specs.Prelude.{◌≡◌, refl, Ok, Err, Bool, true, false, not, cond, ◌&&◌, List, [], ◌∷◌, map, ◌↔◌, ℕ, zero, suc, ◌+◌, ◌*◌, ◌≤◌, ◌<◌, length}
 use Rattle.std.proofs.Common.{sym, ap₂, ◌∙◌, true≢false, zero-lt-suc, arith, ne_eqb}
 use Rattle.std.proofs.Math.Path.{ap}
 use Rattle.std.proofs.lemmas.Bool.{not-true}
@@ -13,8 +13,7 @@ use Rattle.protections.specs.declared.Limits.{Limits}
 use Rattle.protections.specs.declared.Row.{Row}
 use Rattle.page_words.specs.Ranges.{word_at}
 use Rattle.page_judge.specs.Page.{judged}
-use Rattle.refusals.specs.declared.Verdict.{Verdict}
-use Rattle.refusals.specs.declared.Verdict.TheVariants.{Accepted, Refused}
+use Rattle.refusals.specs.Verdicts.{Verdict, Accepted}
 use Rattle.sample.specs.declared.Sample.{Sample}
 use Rattle.sample.specs.Measure.{trips, qualifies}
 use Rattle.protections.specs.Limits.{limits_at}
@@ -149,8 +148,8 @@ cells-some (suc n) s e = zero-lt-suc n
 
 page-taken : (v : Verdict) (bytes : List ℕ) → judged bytes ≡ v → 0 < (loaded_with v bytes).settings.rules.n → judged bytes ≡ Accepted
 unfolding no_settings
-page-taken Accepted bytes e h = e
-page-taken (Refused k w) bytes e h = absurd (omega arith)
+page-taken (Ok done) bytes e h = e
+page-taken (Err r) bytes e h = absurd (omega arith)
 
 -- Only a pack with an accepted page accepts a sample.
 sample-page : (bytes : List ℕ) (s : Sample) → accepts (sample_verdict (page_of bytes).rules.n s) ≡ true → judged bytes ≡ Accepted

@@ -4,7 +4,7 @@ use Rattle.std.specs.Prelude.{◌≡◌, true, List, drop, ℕ, ◌≤◌, ◌<�
 use Rattle.laws.specs.Latest.{last_all, among}
 use Rattle.page_words.specs.Ranges.{word_at}
 use Rattle.page_judge.specs.Page.{judged}
-use Rattle.refusals.specs.declared.Verdict.TheVariants.{Accepted}
+use Rattle.refusals.specs.Verdicts.{Accepted}
 use Rattle.bleed.specs.Walk.History.{wants_cell}
 use Rattle.bleed_wants.specs.Word.{holds_cell}
 use Rattle.pack.specs.Events.{Event}

@@ -2,14 +2,13 @@
 -- accepted page of n cells and real samples since its load, at n of which in a row cell 1 wants and is not bled. With two cells n does do
 -- (TwoCells).
 -- Assumes nothing.
-use Rattle.std.specs.Prelude.{◌≡◌, refl, Bool, true, false, not, ◌&&◌, List, [], ◌∷◌, ◌++◌, map, reverse, ℕ, ◌+◌, ◌-◌, ◌≤◌, eqb, drop, replicate}
+use Rattle.std.specs.Prelude.{◌≡◌, refl, Ok, Err, Bool, true, false, not, ◌&&◌, List, [], ◌∷◌, ◌++◌, map, reverse, ℕ, ◌+◌, ◌-◌, ◌≤◌, eqb, drop, replicate}
 use Rattle.std.proofs.Common.{sym, ap, ◌∙◌, arith, eqb-true}
 use Rattle.laws.specs.Tests.{by-test, clash, and-left, and-right}
 use Rattle.laws.specs.Latest.{last_all, among}
 use Rattle.page_words.specs.Ranges.{word_at}
 use Rattle.page_judge.specs.Page.{judged}
-use Rattle.refusals.specs.declared.Verdict.{Verdict}
-use Rattle.refusals.specs.declared.Verdict.TheVariants.{Accepted, Refused}
+use Rattle.refusals.specs.Verdicts.{Verdict, Accepted}
 use Rattle.laws.specs.Words.{any_of, any-yes}
 use Rattle.bleed_wants.specs.Word.{holds_cell}
 use Rattle.bleed.specs.Walk.Walk.{up_from}
@@ -71,8 +70,8 @@ starves-at n least most =
     clash (any-yes (λ i. not (starves (i + 3))) 8 (n - 3) (omega arith) (ap (λ (m : ℕ). not (starves m)) e ∙ ap not t)) all-starve)
 
 accepted : (v : Verdict) → accepts v ≡ true → v ≡ Accepted
-accepted Accepted e = refl
-accepted (Refused k w) e = clash refl (sym e)
+accepted (Ok done) e = refl
+accepted (Err r) e = clash refl (sym e)
 
 -- n samples at which cell 1 wants, and its bit in none of the balances shown.
 pub record TooFew (n : ℕ) : Type 0 where

@@ -1,13 +1,12 @@
 -- With two cells two samples suffice: only one of two cells can exceed the lowest, so nobody else is in the way. This is a fact of
 -- samples, not of wishes (bleed's Cases has two cells that wait longer over free wishes).
 -- Assumes nothing.
-use Rattle.std.specs.Prelude.{◌≡◌, refl, Bool, true, false, not, ◌&&◌, List, [], ◌∷◌, ℕ, zero, suc, ◌+◌, ◌-◌, ◌≤◌, ◌<◌, leb, ltb, eqb, length, get_or, drop}
+use Rattle.std.specs.Prelude.{◌≡◌, refl, Ok, Err, Bool, true, false, not, ◌&&◌, List, [], ◌∷◌, ℕ, zero, suc, ◌+◌, ◌-◌, ◌≤◌, ◌<◌, leb, ltb, eqb, length, get_or, drop}
 use Rattle.std.proofs.Common.{sym, ap, ◌∙◌, subst, arith, zero-lt-suc, not-suc-le-zero, mod-lt, ltb-true, eqb-true}
 use Rattle.std.proofs.lemmas.Bool.{eqb-false}
 use Rattle.laws.specs.Tests.{by-test, clash, and-left, and-right}
 use Rattle.laws.specs.Latest.{last_all, among}
-use Rattle.refusals.specs.declared.Verdict.{Verdict}
-use Rattle.refusals.specs.declared.Verdict.TheVariants.{Accepted, Refused}
+use Rattle.refusals.specs.Verdicts.{Verdict, Accepted}
 use Rattle.sample.specs.declared.Sample.{Sample}
 use Rattle.sample.specs.declared.Extremes.{Extremes}
 use Rattle.sample.specs.declared.Found.{Found}
@@ -107,8 +106,8 @@ Counts n [] = Unit {0}
 Counts n (s ∷ h) = (s.count ≡ n) × Counts n h
 
 accepts-is : (v : Verdict) → accepts v ≡ true → v ≡ Accepted
-accepts-is Accepted e = refl
-accepts-is (Refused k w) e = clash (sym refl) (sym e)
+accepts-is (Ok done) e = refl
+accepts-is (Err r) e = clash (sym refl) (sym e)
 
 history-counts : (n : ℕ) (es : List Event) → Counts n (past_of n es).history
 unfolding past_of with_event trimmed

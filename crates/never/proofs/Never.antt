@@ -12,7 +12,7 @@ use Rattle.units.specs.Cells.{ten_at_most, ten-all}
 use Rattle.protections.specs.declared.Limits.{Limits}
 use Rattle.protections.specs.Limits.{limits_at, GoodLimits}
 use Rattle.protections.specs.Table.{row_at, protections}
-use Rattle.refusals.specs.declared.Verdict.TheVariants.{Accepted}
+use Rattle.refusals.specs.Verdicts.{Accepted}
 use Rattle.page_judge.specs.Page.{judged}
 use Rattle.page_settings.specs.declared.Settings.{Settings}
 use Rattle.sample.specs.declared.Sample.{Sample}

@@ -10,7 +10,7 @@ use Rattle.std.specs.Int.Count.{ones, ones_in}
 use Rattle.laws.specs.Tests.{by-test, clash, or-left, or-right, or-cases}
 use Rattle.page_words.specs.Ranges.{word_at}
 use Rattle.page_judge.specs.Page.{judged}
-use Rattle.refusals.specs.declared.Verdict.TheVariants.{Accepted}
+use Rattle.refusals.specs.Verdicts.{Accepted}
 use Rattle.page_settings.specs.declared.Settings.{Settings}
 use Rattle.page_settings.specs.Good.{Good}
 use Rattle.sample.specs.declared.Sample.{Sample}

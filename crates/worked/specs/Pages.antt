@@ -1,6 +1,6 @@
 -- Pages worked by hand: the verdict on each is the one that document 01 asks for.
 -- Assumes nothing.
-use Rattle.std.specs.Prelude.{◌≡◌, refl, Bool, true, false, ◌&&◌, List, [], ◌∷◌, ◌++◌, map, ℕ, ◌+◌, eqb, length, get_or, take, set}
+use Rattle.std.specs.Prelude.{◌≡◌, refl, Ok, Err, Bool, true, false, ◌&&◌, List, [], ◌∷◌, ◌++◌, map, ℕ, ◌+◌, eqb, length, get_or, take, set}
 use Rattle.std.proofs.Common.{sym, ap₂, ◌∙◌, true≢false, arith, eqb-true, eq-eqb, length-set, get_or-set_same, get_or-set_other}
 use Rattle.std.proofs.lemmas.List.{take-set-le}
 use Rattle.laws.specs.Numbered.{count_from, list_from}
@@ -15,22 +15,23 @@ use Rattle.page_faults.specs.Met.{level_met, order_met, on_row, kind_meets, meet
 use Rattle.page_judge.specs.Walk.{lowest_word, faults_of, judged-is}
 use Rattle.page_judge.specs.Swapped.{swapped}
 use Rattle.page_judge.specs.Worked.{worked_page, put, minus_word, Change, changed, sealed, page_with}
-use Rattle.refusals.specs.declared.Verdict.{Verdict}
-use Rattle.refusals.specs.declared.Verdict.TheVariants.{Accepted, Refused}
+use Rattle.refusals.specs.Verdicts.{Verdict, Accepted, Refused}
 
 -- Whether two verdicts are the same.
 abbrev agree : Verdict → Verdict → Bool
-agree Accepted Accepted = true
-agree Accepted (Refused j v) = false
-agree (Refused k w) Accepted = false
-agree (Refused k w) (Refused j v) = eqb k j && eqb w v
+agree (Ok done) (Ok done') = true
+agree (Ok done) (Err s) = false
+agree (Err r) (Ok done) = false
+agree (Err r) (Err s) = eqb r.number s.number && eqb r.word s.word
 
 agree-same : (x y : Verdict) → agree x y ≡ true → x ≡ y
-agree-same Accepted Accepted e = refl
-agree-same Accepted (Refused j v) e = absurd (true≢false (sym e))
-agree-same (Refused k w) Accepted e = absurd (true≢false (sym e))
-agree-same (Refused k w) (Refused j v) e =
-    ap₂ Refused (eqb-true k j (and-left (eqb k j) (eqb w v) e)) (eqb-true w v (and-right (eqb k j) (eqb w v) e))
+agree-same (Ok done) (Ok done') e = refl
+agree-same (Ok done) (Err s) e = absurd (true≢false (sym e))
+agree-same (Err r) (Ok done) e = absurd (true≢false (sym e))
+agree-same (Err r) (Err s) e =
+    ap₂ Refused
+    (eqb-true r.number s.number (and-left (eqb r.number s.number) (eqb r.word s.word) e))
+    (eqb-true r.word s.word (and-right (eqb r.number s.number) (eqb r.word s.word) e))
 
 -- ---- pages as they stand
 
