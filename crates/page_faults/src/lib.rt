@@ -3,7 +3,6 @@
 #![tactic(auto)]
 
 ghost use Rattle.std.specs.Prelude.{◌≡◌};
-ghost use Rattle.page_faults.specs.declared.Kind.{Kind};
 ghost use Rattle.page_faults.specs.Kinds.{layout_of, check_at, trip_word, front_kind, part_kind, kind_of};
 ghost use Rattle.page_faults.specs.Met.{level_met, order_met, on_row, kind_meets, meets};
 
@@ -12,7 +11,7 @@ use protections::row_of;
 use units::ProtectionNo;
 
 // What a page of one kind looks like: its mark, how many protections it has from word 16 on, and its last word.
-#[derive(Clone, Copy)]
+#[derive(Clone, Copy, Debug, PartialEq, Eq)]
 pub struct Layout {
     pub mark: u16,
     pub protections: u8,
@@ -20,17 +19,17 @@ pub struct Layout {
 }
 
 // What a word of the page is.
-#[derive(Clone, Copy)]
+#[derive(Clone, Copy, Debug, PartialEq, Eq)]
 pub enum Kind {
     Mark,
-    // One of words 1 to 8, a number of low..high.
-    Setting { low: u16, high: u16 },
+    // One of words 1 to 8: its least and its greatest number.
+    Setting(u16, u16),
     Reserved,
     // The two levels of a protection.
     Trip(ProtectionNo),
     Release(ProtectionNo),
-    // N, M or switch mask of a protection, a number of low..high.
-    Limit { low: u16, high: u16 },
+    // N, M or switch mask of a protection: its least and its greatest number.
+    Limit(u16, u16),
     Last,
     // No word of the page.
     Outside,
@@ -58,32 +57,14 @@ pub fn layout_of(bytes: usize) -> Layout
 pub fn check_at(layout: Layout) -> usize
     ensures { result ≡ check_at layout }
 {
-    2 * (layout.last as usize) + 1
+    2 * usize::from(layout.last) + 1
 }
 
 // The first of the five words of protection p.
 pub fn trip_word(p: ProtectionNo) -> u16
     ensures { result ≡ trip_word p.0 }
 {
-    16 + 5 * (p.0 as u16)
-}
-
-fn setting(low: u16, high: u16) -> Kind
-    ensures { result ≡ Kind.Setting low high }
-{
-    Kind::Setting {
-        low: low,
-        high: high,
-    }
-}
-
-fn limit(low: u16, high: u16) -> Kind
-    ensures { result ≡ Kind.Limit low high }
-{
-    Kind::Limit {
-        low: low,
-        high: high,
-    }
+    16 + 5 * u16::from(p.0)
 }
 
 // Words 0 to 15.
@@ -92,14 +73,14 @@ fn front_kind(i: u8) -> Kind
 {
     match i {
         0 => Kind::Mark,
-        1 => setting(2, 10),
-        2 => setting(1, 5),
-        3 => setting(1, 240),
-        4 => setting(0, 6000),
-        5 => setting(1, 6000),
-        6 => setting(1, 32767),
-        7 => setting(0, 6000),
-        8 => setting(0, 32767),
+        1 => Kind::Setting(2, 10),
+        2 => Kind::Setting(1, 5),
+        3 => Kind::Setting(1, 240),
+        4 => Kind::Setting(0, 6000),
+        5 => Kind::Setting(1, 6000),
+        6 => Kind::Setting(1, 32767),
+        7 => Kind::Setting(0, 6000),
+        8 => Kind::Setting(0, 32767),
         _ => Kind::Reserved,
     }
 }
@@ -111,20 +92,21 @@ fn part_kind(p: ProtectionNo, f: u8) -> Kind
     match f {
         0 => Kind::Trip(p),
         1 => Kind::Release(p),
-        2 => limit(1, 240),
-        3 => limit(1, 240),
-        _ => limit(0, 3),
+        2 => Kind::Limit(1, 240),
+        3 => Kind::Limit(1, 240),
+        _ => Kind::Limit(0, 3),
     }
 }
 
 // What word i of a page is.
+#[tactic(auto, unfolding(crate::specs::Kinds::kind_of))]
 pub fn kind_of(layout: Layout, i: u8) -> Kind
     ensures { result ≡ kind_of layout i }
 {
     if i < 16 {
         return front_kind(i);
     }
-    if (i as u16) < trip_word(ProtectionNo(layout.protections)) {
+    if u16::from(i) < trip_word(ProtectionNo(layout.protections)) {
         return part_kind(ProtectionNo((i - 16) / 5), (i - 16) % 5);
     }
     if i < layout.last {
@@ -137,59 +119,59 @@ pub fn kind_of(layout: Layout, i: u8) -> Kind
 }
 
 // Whether a trip or release word is in the range of what protection p looks at.
+#[tactic(auto, unfolding(crate::specs::Met::level_met))]
 fn level_met(p: ProtectionNo, x: u16) -> bool
     ensures { result ≡ level_met p.0 x }
 {
-    let row = row_of(p);
-    let quantity = row.quantity;
-    level_fits(quantity, x)
+    level_fits(row_of(p).quantity, x)
 }
 
 // Whether the trip and release words of protection p are in order.
+#[tactic(auto, unfolding(crate::specs::Met::order_met))]
 fn order_met(p: ProtectionNo, trip: u16, release: u16) -> bool
     ensures { result ≡ order_met p.0 trip release }
 {
     let row = row_of(p);
-    let quantity = row.quantity;
-    let direction = row.direction;
-    let a = level_of(quantity, trip);
-    let b = level_of(quantity, release);
-    in_order(direction, a, b)
+    in_order(
+        row.direction,
+        level_of(row.quantity, trip),
+        level_of(row.quantity, release),
+    )
 }
 
 // What row `number` asks: it asks nothing where another row is looked at.
+#[tactic(auto, unfolding(crate::specs::Met::on_row))]
 fn on_row(number: u8, row: u8, met: bool) -> bool
     ensures { result ≡ on_row number row met }
 {
-    if row == number {
-        return met;
-    }
-    true
+    row != number || met
 }
 
 // Whether word i, if it is of that kind, meets the row, one of 5 to 8, of the refusal table.
+#[tactic(auto, unfolding(crate::specs::Met::kind_meets))]
 fn kind_meets(page: &[u8], kind: Kind, row: u8, i: u8) -> bool
     ensures { result ≡ kind_meets kind row page.now i }
 {
-    let x = word_at(page, i as u16);
+    let x = word_at(page, u16::from(i));
     match kind {
         Kind::Mark => true,
-        Kind::Setting { low, high } => on_row(6, row, within(low, high, x)),
+        Kind::Setting(low, high) => on_row(6, row, within(low, high, x)),
         Kind::Reserved => on_row(5, row, x == 0),
         Kind::Trip(p) => {
             if row == 8 {
-                return order_met(p, x, word_at(page, (i as u16) + 1));
+                return order_met(p, x, word_at(page, u16::from(i) + 1));
             }
             on_row(7, row, level_met(p, x))
         }
         Kind::Release(p) => on_row(7, row, level_met(p, x)),
-        Kind::Limit { low, high } => on_row(7, row, within(low, high, x)),
-        Kind::Last => on_row(5, row, byte_at(page, 2 * (i as usize)) == 0),
+        Kind::Limit(low, high) => on_row(7, row, within(low, high, x)),
+        Kind::Last => on_row(5, row, byte_at(page, 2 * usize::from(i)) == 0),
         Kind::Outside => true,
     }
 }
 
 // Whether word i meets the row.
+#[tactic(auto, unfolding(crate::specs::Met::meets))]
 pub fn meets(page: &[u8], layout: Layout, row: u8, i: u8) -> bool
     ensures { result ≡ meets layout row page.now i }
 {
