@@ -21,7 +21,7 @@ use units::{Level, MilliVolts, ProtectionNo, signed_of};
 // The page's words 1 to 8: cells n, most cells bled at once K, run limit R, balance floor and difference, charge detection current,
 // charging voltage per cell and charging current.
 #[repr(C)]
-#[derive(Clone, Copy)]
+#[derive(Clone, Copy, Debug, PartialEq, Eq)]
 pub struct Rules {
     pub n: u8,
     pub k: u8,
@@ -34,7 +34,7 @@ pub struct Rules {
 }
 
 // The settings: words 1 to 8, and the limits of every protection.
-#[derive(Clone, Copy)]
+#[derive(Clone, Copy, Debug, PartialEq, Eq)]
 pub struct Settings {
     pub rules: Rules,
     pub limits: [Limits; PROTECTIONS],
@@ -42,43 +42,33 @@ pub struct Settings {
 
 // A page's verdict, and what it says if it is accepted.
 // Kept (promise): `load` gives settings of a refused page too (`loaded_of`, `no_settings`), so this is no Result.
-#[derive(Clone, Copy)]
+#[derive(Clone, Copy, Debug, PartialEq, Eq)]
 pub struct Loaded {
     pub verdict: Verdict,
     pub settings: Settings,
 }
 
 // Whether the page gives the levels of this quantity in degrees.
+#[tactic(auto, unfolding(crate::specs::Settings::in_degrees))]
 fn in_degrees(quantity: Quantity) -> bool
     ensures { result ≡ in_degrees quantity }
 {
-    match quantity {
-        Quantity::HighestCell => false,
-        Quantity::LowestCell => false,
-        Quantity::Current => false,
-        Quantity::Temperature1 => true,
-        Quantity::Temperature2 => true,
-    }
+    matches!(quantity, Quantity::Temperature1 | Quantity::Temperature2)
 }
 
 // The level that a word stands for, in the sample's unit, where it is reached in this direction: degrees fall between two tenths.
+#[tactic(auto, unfolding(crate::specs::Settings::sample_level))]
 fn sample_level(direction: Direction, quantity: Quantity, x: u16) -> Level
     ensures { result ≡ level (sample_level direction quantity x) }
 {
     let z = level_of(quantity, x);
-    if in_degrees(quantity) {
-        match direction {
-            Direction::Above => {
-                let tenths = 10 * z.0 + 2732;
-                return Level(tenths);
-            }
-            Direction::Below => {
-                let tenths = 10 * z.0 + 2731;
-                return Level(tenths);
-            }
-        }
+    if !in_degrees(quantity) {
+        return Level(z.0);
     }
-    Level(z.0)
+    match direction {
+        Direction::Above => Level(10 * z.0 + 2732),
+        Direction::Below => Level(10 * z.0 + 2731),
+    }
 }
 
 // A word that fits a byte.
@@ -93,31 +83,23 @@ fn small(page: &[u8], i: u16) -> u8
 fn page_protections(page: &[u8]) -> u8
     ensures { result ≡ page_protections page.now }
 {
-    let layout = layout_of(page.len());
-    layout.protections
+    layout_of(page.len()).protections
 }
 
 // What an accepted page says of protection p, which it has: the five words from its trip word on.
+#[tactic(auto, unfolding(crate::specs::Settings::limits_from))]
 fn limits_from(page: &[u8], p: ProtectionNo) -> Limits
     requires { (judged page.now ≡ Accepted) × (p.0 < page_protections page.now) }
     ensures { result ≡ limits_from page.now p.0 }
 {
     let row = row_of(p);
-    let quantity = row.quantity;
-    let direction = row.direction;
     let at = trip_word(p);
-    let trip = sample_level(direction, quantity, word_at(page, at));
-    let back = back_of(direction);
-    let release = sample_level(back, quantity, word_at(page, at + 1));
-    let n = small(page, at + 2);
-    let m = small(page, at + 3);
-    let mask = small(page, at + 4);
     Limits {
-        trip,
-        release,
-        n,
-        m,
-        mask,
+        trip: sample_level(row.direction, row.quantity, word_at(page, at)),
+        release: sample_level(back_of(row.direction), row.quantity, word_at(page, at + 1)),
+        n: small(page, at + 2),
+        m: small(page, at + 3),
+        mask: small(page, at + 4),
     }
 }
 
@@ -137,6 +119,7 @@ fn absent_limits() -> Limits
 }
 
 // What an accepted page says of protection p, if it has it.
+#[tactic(auto, unfolding(crate::specs::Settings::limits_for))]
 fn limits_for(page: &[u8], p: ProtectionNo) -> Limits
     requires { judged page.now ≡ Accepted }
     ensures { result ≡ limits_for page.now p.0 }
@@ -164,68 +147,61 @@ fn limits_of(page: &[u8]) -> [Limits; PROTECTIONS]
     requires { judged page.now ≡ Accepted }
     ensures { result ≡ limits_of page.now }
 {
-    let none = no_limits();
-    let mut all = [none; PROTECTIONS];
-    let mut p: u8 = 0;
-    while (p as usize) < PROTECTIONS {
-        all[p as usize] = limits_for(page, ProtectionNo(p));
-        p += 1;
+    let mut all = [no_limits(); PROTECTIONS];
+    for p in 0..PROTECTIONS {
+        all[p] = limits_for(page, ProtectionNo(p as u8));
     }
     all
 }
 
 // What an accepted page says in its words 1 to 8.
+#[tactic(auto, unfolding(crate::specs::Settings::rules_of))]
 fn rules_of(page: &[u8]) -> Rules
     requires { judged page.now ≡ Accepted }
     ensures { result ≡ rules_of page.now }
 {
-    let n = small(page, 1);
-    let k = small(page, 2);
-    let r = small(page, 3);
-    let floor = MilliVolts(word_at(page, 4));
-    let difference = MilliVolts(word_at(page, 5));
-    let detection = signed_of(word_at(page, 6));
-    let voltage = MilliVolts(word_at(page, 7));
-    let current = signed_of(word_at(page, 8));
     Rules {
-        n,
-        k,
-        r,
-        floor,
-        difference,
-        detection,
-        voltage,
-        current,
+        n: small(page, 1),
+        k: small(page, 2),
+        r: small(page, 3),
+        floor: MilliVolts(word_at(page, 4)),
+        difference: MilliVolts(word_at(page, 5)),
+        detection: signed_of(word_at(page, 6)),
+        voltage: MilliVolts(word_at(page, 7)),
+        current: signed_of(word_at(page, 8)),
     }
 }
 
 // What an accepted page says.
+#[tactic(auto, unfolding(crate::specs::Settings::settings_of))]
 fn settings_of(page: &[u8]) -> Settings
     requires { judged page.now ≡ Accepted }
     ensures { result ≡ settings_of page.now }
 {
-    let rules = rules_of(page);
-    let limits = limits_of(page);
-    Settings { rules, limits }
+    Settings {
+        rules: rules_of(page),
+        limits: limits_of(page),
+    }
 }
 
 // The settings that go with a refused page: 0 throughout.
+#[tactic(auto, unfolding(crate::specs::Settings::no_settings))]
 fn no_settings() -> Settings
     ensures { result ≡ no_settings }
 {
-    let none = no_limits();
-    let limits = [none; PROTECTIONS];
-    let rules = Rules {
-        n: 0,
-        k: 0,
-        r: 0,
-        floor: MilliVolts(0),
-        difference: MilliVolts(0),
-        detection: 0,
-        voltage: MilliVolts(0),
-        current: 0,
-    };
-    Settings { rules, limits }
+    Settings {
+        rules: Rules {
+            n: 0,
+            k: 0,
+            r: 0,
+            floor: MilliVolts(0),
+            difference: MilliVolts(0),
+            detection: 0,
+            voltage: MilliVolts(0),
+            current: 0,
+        },
+        limits: [no_limits(); PROTECTIONS],
+    }
 }
 
 // Judges a page of any length, and reads its settings if it is accepted. The verdict has the number and word of the refusal table.
@@ -234,13 +210,13 @@ pub fn load(page: &[u8]) -> Loaded
 {
     let verdict = page_judge::judge(page);
     match verdict {
-        Ok(()) => {
-            let settings = settings_of(page);
-            Loaded { verdict, settings }
-        }
-        Err(_) => {
-            let settings = no_settings();
-            Loaded { verdict, settings }
-        }
+        Ok(()) => Loaded {
+            verdict,
+            settings: settings_of(page),
+        },
+        Err(_) => Loaded {
+            verdict,
+            settings: no_settings(),
+        },
     }
 }
