@@ -9,7 +9,7 @@ use bleed::chooser::choose;
 use bleed::resting::{next_cell, next_runs, resting_word};
 use bleed_wants::{is_charging, wanting_word};
 use guard::rule::Protection;
-use guard_watch::Watch;
+use guard_watch::{Guarded, Watch};
 use page_settings::Rules;
 use protections::PROTECTIONS;
 use sample::{Extremes, Sample};
@@ -19,7 +19,7 @@ use units::CellNo;
 // cell, and at how many samples in a row up to now each cell was bled. Bit k - 1 of a word stands for cell k. No word and no line shows
 // `begun` and `rested`; `begun-is` and `rested-is` (specs/Steps) say what they are.
 #[repr(C)]
-#[derive(Clone, Copy)]
+#[derive(Clone, Copy, Debug, PartialEq, Eq)]
 pub struct Balance {
     pub begun: CellNo,
     pub rested: u16,
@@ -30,7 +30,7 @@ pub struct Balance {
 
 // The state of a pack: what the page says (its limits stand in the protections), and what was kept since; `watch` is what the protections
 // come to. It does not grow with the history. Without a page n is 0, and every sample is refused.
-#[derive(Clone, Copy)]
+#[derive(Clone, Copy, Debug, PartialEq, Eq)]
 pub struct Pack {
     pub rules: Rules,
     pub protections: [Protection; PROTECTIONS],
@@ -44,6 +44,7 @@ pub struct Pack {
 
 // ---- an accepted sample
 
+#[tactic(auto, unfolding(crate::specs::State::next_tick))]
 fn next_tick(t: u32) -> u32
     ensures { result ≡ next_tick t }
 {
@@ -54,38 +55,34 @@ fn next_tick(t: u32) -> u32
 }
 
 // The cells that want bleeding at a sample whose highest and lowest cell are e, by whether a protection is raised after it.
+#[tactic(auto, unfolding(crate::specs::State::want_at))]
 pub fn want_at(r: Rules, s: Sample, e: Extremes, raised: bool) -> u16
     ensures { result ≡ want_at r s e raised }
 {
-    let charging = is_charging(r.detection, s.current);
-    let cells = s.cells;
     wanting_word(
         r.n,
-        charging,
+        is_charging(r.detection, s.current),
         raised,
         r.floor,
         r.difference,
         e.lowest.volts,
-        cells,
+        s.cells,
     )
 }
 
 // Bleeding at one sample.
+#[tactic(auto, unfolding(crate::specs::State::next_balance))]
 fn next_balance(r: Rules, want: u16, b: Balance) -> Balance
     ensures { result ≡ next_balance r want b }
 {
-    let runs = b.runs;
-    let start = b.start;
-    let rested = resting_word(r.n, r.r, b.bled, runs);
-    let bled = choose(r.n, r.k, want, rested, start);
-    let next = next_runs(bled, runs);
-    let after = next_cell(r.n, start);
+    let rested = resting_word(r.n, r.r, b.bled, b.runs);
+    let bled = choose(r.n, r.k, want, rested, b.start);
     Balance {
-        begun: start,
-        rested: rested,
-        bled: bled,
-        start: after,
-        runs: next,
+        begun: b.start,
+        rested,
+        bled,
+        start: next_cell(r.n, b.start),
+        runs: next_runs(bled, b.runs),
     }
 }
 
@@ -94,21 +91,14 @@ pub fn accept(p: Pack, s: Sample, e: Extremes) -> Pack
     requires { Watched p }
     ensures { result ≡ accepted_by e p s }
 {
-    let old = p.protections;
-    let watched = p.watch;
-    let guarded = guard_watch::step(old, watched, s, e);
-    let protections = guarded.protections;
-    let watch = guarded.watch;
-    let rules = p.rules;
+    let Guarded { protections, watch } = guard_watch::step(p.protections, p.watch, s, e);
     let raised = watch.raised != 0;
-    let want = want_at(rules, s, e, raised);
-    let kept = p.balance;
-    let balance = next_balance(rules, want, kept);
+    let want = want_at(p.rules, s, e, raised);
     Pack {
-        rules: rules,
-        protections: protections,
-        watch: watch,
-        balance: balance,
+        rules: p.rules,
+        protections,
+        watch,
+        balance: next_balance(p.rules, want, p.balance),
         latest: s,
         sampled: true,
         command: p.command,

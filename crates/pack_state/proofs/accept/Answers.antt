@@ -3,15 +3,15 @@ use Rattle.guard_raised.specs.Words.{any_raised-word}
 use Rattle.guard_watch.specs.Watch.{watch_of, guarded_by}
 use Rattle.pack_state.proofs.accept.Goals as goal
 
-pub step-guarded-requires : goal.step-guarded-requires
-step-guarded-requires c = c.requires
+pub step-requires : goal.step-requires
+step-requires c = c.requires
 
 pub returns : goal.returns
 unfolding guarded_by watch_of
 returns c = rw (
   c.next_tick.ensures,
-  c.next_balance-balance.ensures,
+  c.next_balance.ensures,
   c.want_at-want.ensures,
-  c.step-guarded.ensures,
+  c.step.ensures,
   any_raised-word,
 )
