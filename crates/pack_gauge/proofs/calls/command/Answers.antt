@@ -2,5 +2,8 @@
 use Rattle.pack_gauge.specs.Ends.{command-end}
 use Rattle.pack_gauge.proofs.calls.command.Goals as goal
 
-pub returns : goal.returns
-returns c = let both = command-end _ c.requires _ _ c.command-a.ensures.value c.command-a.ensures.verdict_value in record { value = both.0; verdict_value = both.1.0; filled = both.1.1 }
+pub invariant_of-result : goal.invariant_of-result
+invariant_of-result c = (command-end _ c.g.invariant _ _ c.command-a.ensures.value c.command-a.ensures.verdict_value).1.1
+
+pub returns-clause-value : goal.returns-clause-value
+returns-clause-value c = rw (← c.g.view_is) (command-end _ c.g.invariant _ _ c.command-a.ensures.value c.command-a.ensures.verdict_value).0
