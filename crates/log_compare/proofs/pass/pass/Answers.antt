@@ -4,4 +4,4 @@ use Rattle.log_compare.specs.Pass.{next_both, no_text}
 use Rattle.log_compare.proofs.pass.pass.Goals as goal
 
 pub returns : goal.returns
-returns c = record { pass = feed-made next_both no_text 0 _ _ _ _ _ _ _ _ _ _ c.pass_chunk-r.ensures.pass_chunk c.carried-held.ensures.value c.move_down.ensures; kept = c.pass_chunk-r.ensures.kept }
+returns c = feed-made next_both no_text 0 _ _ _ _ _ _ _ _ _ _ c.pass_chunk-used.ensures c.carried-held.ensures.value c.move_down.ensures

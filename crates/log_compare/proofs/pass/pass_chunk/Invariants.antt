@@ -3,12 +3,11 @@ use mathlib.Core.List.{[]}
 use Prim.Native.Nat.{◌-◌}
 use lib.ListN.{length}
 use Rattle.log_lines.specs.Chunk.{Going}
-use Rattle.pack.specs.Kept.{Kept}
 use Rattle.log_compare.specs.Pass.{next_both, no_text}
 use Rattle.log_compare.proofs.pass.pass_chunk.Given as goal
 
 abbrev pub invariant-loop-n : goal.invariant-loop-n
-invariant-loop-n l = Going next_both no_text 0 l.bytes [] l.initial.k l.at 0 l.k [] × (Kept l.k.first × Kept l.k.second)
+invariant-loop-n l = Going next_both no_text 0 l.bytes [] l.initial.k l.at 0 l.k []
 
 abbrev pub decreases-loop-n : goal.decreases-loop-n
 decreases-loop-n l = length l.bytes - l.at
