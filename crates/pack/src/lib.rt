@@ -49,6 +49,7 @@ pub struct Answered {
     pub pack: Keeper,
 }
 
+#[tactic(auto, unfolding(pack_state::specs::State::fresh_balance))]
 fn fresh_balance() -> Balance
     ensures { result ≡ fresh_balance }
 {
@@ -61,6 +62,7 @@ fn fresh_balance() -> Balance
     }
 }
 
+#[tactic(auto, unfolding(pack_state::specs::State::fresh_pack))]
 fn fresh_pack(s: Settings) -> Pack
     ensures { result ≡ fresh_pack s }
 {

@@ -13,10 +13,11 @@ use refusals::{Verdict, refused};
 use sample::{Extremes, Sample};
 use units::{DeciKelvin, MilliVolts};
 
+#[tactic(auto, unfolding(page_words::specs::Ranges::within))]
 fn temperature_fits(t: DeciKelvin) -> bool
     ensures { result ≡ temperature_fits t.0 }
 {
-    2000 <= t.0 && t.0 <= 4500
+    (2000..=4500).contains(&t.0)
 }
 
 #[tactic(auto, unfolding(crate::specs::Samples::temperatures_verdict))]
@@ -59,6 +60,7 @@ pub fn command_verdict(c: u16) -> Verdict
 
 // ---- what is kept of an accepted sample
 
+#[tactic(auto, unfolding(crate::specs::Samples::kept_cell))]
 fn kept_cell(count: u8, i: u8, v: MilliVolts) -> MilliVolts
     ensures { result ≡ kept_cell count i v }
 {

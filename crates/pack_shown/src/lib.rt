@@ -32,6 +32,7 @@ fn switch_on(p: Pack, switch: u8) -> bool
 }
 
 // The switches that are on: bit 0 charge, bit 1 discharge.
+#[tactic(auto, unfolding(crate::specs::Shown::switches_of))]
 pub fn switches(p: Pack) -> u16
     requires { Watched p }
     ensures { result ≡ switches_of p }
@@ -77,6 +78,7 @@ fn flow_mode(charging: bool) -> u8
 }
 
 // The mode, as command 0x41 sends it.
+#[tactic(auto, unfolding(crate::specs::Shown::mode_of, guard_watch::specs::Watch::watch_of))]
 pub fn mode(p: Pack) -> u16
     requires { Watched p }
     ensures { result ≡ mode_of p }
@@ -89,6 +91,7 @@ pub fn mode(p: Pack) -> u16
 }
 
 // The five fields of a line of the replay.
+#[tactic(auto, unfolding(crate::specs::Shown::decision_of, guard_watch::specs::Watch::watch_of))]
 pub fn decide(p: Pack) -> Decision
     requires { Watched p }
     ensures { result ≡ decision_of p }
