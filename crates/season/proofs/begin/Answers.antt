@@ -4,4 +4,4 @@ use Rattle.season.proofs.begin.Goals as goal
 
 pub returns : goal.returns
 unfolding begin_with
-returns c = rw c.no_figures-figures.ensures
+returns c = rw c.no_figures.ensures

@@ -5,4 +5,4 @@ use Rattle.season.specs.Chunks.{no_text}
 use Rattle.season.proofs.count.Goals as goal
 
 pub returns : goal.returns
-returns c = record { count = feed-made next_season no_text 0 _ _ _ _ _ _ _ _ _ _ c.count_chunk-r.ensures.count_chunk c.carried-held.ensures.value c.move_down.ensures; kept = c.count_chunk-r.ensures.kept }
+returns c = feed-made next_season no_text 0 _ _ _ _ _ _ _ _ _ _ c.count_chunk-used.ensures c.carried-held.ensures.value c.move_down.ensures
