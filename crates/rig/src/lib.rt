@@ -1,4 +1,5 @@
 // What the bench rig's host program, written in C, calls. tests/rig/keeper.h has the prototypes.
+// Kept (C): the functions' names, parameters and answers, which are numbers, are those of that header.
 
 #![tactic(auto)]
 
@@ -14,17 +15,17 @@ ghost use Rattle.rig.specs.Answer.{numbered, wrote_number};
 use crc::check_byte;
 use pack_numbers::{Call, Numbers, Shown};
 use page_judge::judge;
-use refusals::Verdict;
+use refusals::{Refusal, Verdict};
 use sample::Sample;
 use sheet_read::read_sheet;
-use sheet_write::{Wrote, write_sheet};
+use sheet_write::write_sheet;
 
 // uint32_t keeper_check_byte(const uint8_t *bytes, size_t length): the check byte of the bytes.
 #[unsafe(no_mangle)]
 pub extern "C" fn keeper_check_byte(bytes: &[u8]) -> u32
     ensures { result ≡ check_byte bytes.now }
 {
-    check_byte(bytes) as u32
+    u32::from(check_byte(bytes))
 }
 
 // The one number that C is answered for a verdict.
@@ -32,8 +33,8 @@ fn number_of(verdict: Verdict) -> u32
     ensures { result ≡ numbered verdict }
 {
     match verdict {
-        Verdict::Accepted => 0,
-        Verdict::Refused { number, word } => number as u32 * 256 + word as u32,
+        Ok(()) => 0,
+        Err(Refusal { number, word }) => u32::from(number) * 256 + u32::from(word),
     }
 }
 
@@ -43,8 +44,7 @@ fn number_of(verdict: Verdict) -> u32
 pub extern "C" fn keeper_judge_page(page: &[u8]) -> u32
     ensures { result ≡ numbered (judged page.now) }
 {
-    let verdict = judge(page);
-    number_of(verdict)
+    number_of(judge(page))
 }
 
 // uint32_t keeper_judge_pocket(const uint8_t *page, size_t length): the same by the pocket profile, whose refusal is 21.
@@ -52,8 +52,7 @@ pub extern "C" fn keeper_judge_page(page: &[u8]) -> u32
 pub extern "C" fn keeper_judge_pocket(page: &[u8]) -> u32
     ensures { result ≡ numbered (pocket_judged page.now) }
 {
-    let verdict = page_pocket::judge(page);
-    number_of(verdict)
+    number_of(page_pocket::judge(page))
 }
 
 // ---- a pack: keeper.h has struct keeper_pack and struct keeper_sample as these two lie in memory
@@ -71,10 +70,9 @@ pub extern "C" fn keeper_pack_load(page: &[u8]) -> Call
 pub extern "C" fn keeper_pack_offer(pack: &mut Numbers, sample: Sample) -> u32
     ensures { (result ≡ (offered_numbers pack.old sample).answer) × (pack.new ≡ (offered_numbers pack.old sample).pack) }
 {
-    let old = *pack;
-    let a = pack_numbers::offer(old, sample);
-    *pack = a.pack;
-    a.answer
+    let call = pack_numbers::offer(*pack, sample);
+    *pack = call.pack;
+    call.answer
 }
 
 // struct keeper_call keeper_pack_command(struct keeper_pack pack, uint16_t command): the pack behind the command is in the answer.
@@ -109,10 +107,9 @@ pub extern "C" fn keeper_write_sheet(page: &[u8], text: &mut [u8]) -> u64
     ensures value { result ≡ wrote_number (wrote_for page.now (length text.old)) }
     ensures text_after { text.new ≡ sheet_in page.now text.old }
 {
-    let wrote = write_sheet(page, text);
-    match wrote {
-        Wrote::Text { length } => length as u64,
-        Wrote::Refused { number, word } => number as u64 * 65536 + word as u64,
+    match write_sheet(page, text) {
+        Ok(length) => length as u64,
+        Err(Refusal { number, word }) => u64::from(number) * 65536 + u64::from(word),
     }
 }
 
@@ -123,6 +120,5 @@ pub extern "C" fn keeper_read_sheet(text: &[u8], page: &mut [u8]) -> u32
     ensures value { result ≡ numbered (read_verdict text.now (length page.old)) }
     ensures page_after { page.new ≡ page_in text.now page.old }
 {
-    let verdict = read_sheet(text, page);
-    number_of(verdict)
+    number_of(read_sheet(text, page))
 }

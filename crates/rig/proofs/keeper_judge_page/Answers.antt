@@ -4,4 +4,4 @@ use Rattle.rig.specs.Answer.{numbered}
 use Rattle.rig.proofs.keeper_judge_page.Goals as goal
 
 pub returns : goal.returns
-returns c = c.number_of.ensures ∙ ap numbered c.judge-verdict.ensures.0
+returns c = c.number_of.ensures ∙ ap numbered c.judge.ensures.0

@@ -4,4 +4,4 @@ use Rattle.rig.specs.Answer.{numbered}
 use Rattle.rig.proofs.keeper_read_sheet.Goals as goal
 
 pub returns : goal.returns
-returns c = record { value = c.number_of.ensures ∙ ap numbered c.read_sheet-verdict.ensures.value; page_after = c.read_sheet-verdict.ensures.page_after }
+returns c = record { value = c.number_of.ensures ∙ ap numbered c.read_sheet.ensures.value; page_after = c.read_sheet.ensures.page_after }
