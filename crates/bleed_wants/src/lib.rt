@@ -2,8 +2,8 @@
 
 #![tactic(auto)]
 
-ghost use Rattle.std.specs.Prelude.{◌≡◌, true, false, ◌&&◌, ltb};
-ghost use Rattle.bleed_wants.specs.Wants.{is_charging, wants};
+ghost use Rattle.std.specs.Prelude.{◌≡◌, ◌&&◌, leb, ltb};
+ghost use Rattle.bleed_wants.specs.Wants.{is_charging};
 ghost use Rattle.bleed_wants.specs.Steps.{wanting_word};
 
 use laws::with_bit_if;
@@ -16,32 +16,12 @@ pub fn is_charging(detection: i16, current: i16) -> bool
     detection <= current
 }
 
-// One cell's wish while the pack charges and no protection is raised. The lowest cell and the difference may come to more than 16
-// bits hold.
-#[tactic(auto, unfolding(crate::specs::Wants::wants))]
-fn wants_one(
-    floor: MilliVolts,
-    difference: MilliVolts,
-    lowest: MilliVolts,
-    cell: MilliVolts,
-) -> bool
-    ensures { result ≡ wants true false floor.0 difference.0 lowest.0 cell.0 }
+// Cell `at` + 1 wants while the pack charges and no protection is raised: it is a cell of the pack, at or above the floor, and above
+// `over`, the lowest cell and the difference.
+fn wants_at(n: u8, at: u8, floor: MilliVolts, over: u32, cell: MilliVolts) -> bool
+    ensures { result ≡ ltb at n && (leb floor.0 cell.0 && ltb over cell.0) }
 {
-    floor <= cell && u32::from(lowest.0) + u32::from(difference.0) < u32::from(cell.0)
-}
-
-// Cell `at` + 1 wants: it is a cell of the pack, and has the wish.
-fn wants_at(
-    n: u8,
-    at: u8,
-    floor: MilliVolts,
-    difference: MilliVolts,
-    lowest: MilliVolts,
-    cell: MilliVolts,
-) -> bool
-    ensures { result ≡ ltb at n && wants true false floor.0 difference.0 lowest.0 cell.0 }
-{
-    at < n && wants_one(floor, difference, lowest, cell)
+    at < n && floor <= cell && over < u32::from(cell.0)
 }
 
 // The word of the cells that want bleeding, of cells 1 to n: bit k - 1 for cell k. All ten entries are asked.
@@ -60,9 +40,11 @@ pub fn wanting_word(
     if !charging || raised {
         return 0;
     }
+    // They may come to more than 16 bits hold.
+    let over = u32::from(lowest.0) + u32::from(difference.0);
     let mut word: u16 = 0;
     for (i, cell) in cells.iter().enumerate() {
-        let on = wants_at(n, i as u8, floor, difference, lowest, *cell);
+        let on = wants_at(n, i as u8, floor, over, *cell);
         word = with_bit_if(word, i as u8, on);
     }
     word

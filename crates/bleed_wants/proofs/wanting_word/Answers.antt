@@ -1,5 +1,6 @@
 -- `bleed_wants::wanting_word` meets its contract
-use Rattle.std.proofs.Common.{◌≡◌, sym, ◌∙◌, inl, inr, length, rules, arith}
+use Rattle.std.proofs.Common.{◌≡◌, sym, ◌∙◌, inl, inr, length, rules, arith, ◌&&◌, true, false, ltb, get_or}
+use Rattle.bleed_wants.specs.Wants.{wants}
 use Rattle.laws.specs.Words.{bits-none, bits-next, bits-within}
 use Rattle.bleed_wants.specs.Word.{cells_passing}
 use Rattle.bleed_wants.specs.Steps.{wanting_word}
@@ -18,10 +19,12 @@ pub loop-i-init : goal.loop-i-init
 loop-i-init c = bits-none _
 
 pub loop-i-preserved : goal.loop-i-preserved
+unfolding wants
 loop-i-preserved c = let a = c.args in
+    let wish : c.wants_at-on.result ≡ ltb c.loop-i.i a.n && wants true false a.floor.0 a.difference.0 a.lowest.0 (get_or a.cells c.loop-i.i (record { 0 = 0 })).0 =
+    c.wants_at-on.ensures ∙ rw (c.from.ensures, c.from-2.ensures) in
     bits-next _ _ _ _ _ c.loop-i.invariant
-    (c.wants_at-on.ensures
-    ∙ wishes-at a.n a.charging a.raised a.floor.0 a.difference.0 a.lowest.0 a.cells c.loop-i.i (search rules) (search rules))
+    (wish ∙ wishes-at a.n a.charging a.raised a.floor.0 a.difference.0 a.lowest.0 a.cells c.loop-i.i (search rules) (search rules))
     c.with_bit_if-word.ensures
 
 pub returns : goal.returns

@@ -6,4 +6,4 @@ use Rattle.bleed_wants.specs.Steps.{wishes}
 use Rattle.bleed_wants.proofs.wanting_word.Given as goal
 
 abbrev pub invariant-loop-i : goal.invariant-loop-i
-invariant-loop-i l = l.word ≡ bits_of (λ j. ltb j l.n && wishes l.charging l.raised l.floor.0 l.difference.0 l.lowest.0 l.fn.cells (suc j)) l.i
+invariant-loop-i l = l.word ≡ bits_of (λ j. ltb j l.n && wishes l.charging l.raised l.floor.0 l.fn.difference.0 l.fn.lowest.0 l.fn.cells (suc j)) l.i
