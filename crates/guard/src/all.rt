@@ -18,6 +18,7 @@ fn step_at(no: ProtectionNo, s: Sample, e: Extremes, p: Protection) -> Protectio
 }
 
 // Protections `from` up to `to`, one sample on.
+// Kept (rule): the records are an array by value, stepped entry by entry.
 fn step_some(
     ps: [Protection; PROTECTIONS],
     s: Sample,
@@ -36,8 +37,8 @@ fn step_some(
     out
 }
 
-// Every protection, one sample on; e are the highest and the lowest cell of the sample. In two halves: the compiler looks up
-// the rows of five protections beforehand, and of ten at each sample.
+// Every protection, one sample on; e are the highest and the lowest cell of the sample.
+// Kept (speed): in two halves. The compiler looks up the rows of five protections beforehand, and of ten at each sample.
 pub fn step_all(ps: [Protection; PROTECTIONS], s: Sample, e: Extremes) -> [Protection; PROTECTIONS]
     ensures { result ≡ step_all e s ps }
 {

@@ -9,6 +9,7 @@ use protections::{Direction, Limits, back_of};
 use units::Level;
 
 // Clear, with its run of tripping samples; or raised, with its run of releasing samples.
+// Kept (rule): the enum of the two states, each with its run.
 #[derive(Clone, Copy, Debug, PartialEq, Eq)]
 pub enum Alarm {
     Clear(u8),

@@ -145,6 +145,7 @@ fn bands_of(ps: [Protection; PROTECTIONS]) -> [Band; 5]
         below: Level(100000),
     }; 5];
     for (i, p) in ps.iter().enumerate() {
+        // Kept (proof): in two steps. The borrow checker does not cover a call whose result is laid in an array that the call is handed.
         let next = narrowed_at(bands, ProtectionNo(i as u8), *p);
         bands = next;
     }

@@ -92,7 +92,7 @@ pub fn extremes_of(cells: [MilliVolts; 10], count: u8) -> Extremes
         highest: first,
         lowest: first,
     };
-    // Ten turns, with a return behind the last cell: so the compiler writes the turns out.
+    // Kept (speed): ten turns, with a return behind the last cell, and not as many as there are cells: so the compiler writes the turns out.
     for i in 1..10 {
         if n <= i {
             return e;
