@@ -1,7 +1,7 @@
 -- `move_down` meets its contract
 use mathlib.Core.Path.{◌≡◌}
 use native.Mathlib.Omega.{arith}
-use Rattle.log_lines.specs.Carrying.{moved-start, moved-on, moved-end, moved-not}
+use Rattle.log_lines.specs.Carrying.{moved-on, moved-end, moved-not}
 use Rattle.log_lines.proofs.move_down.Goals as goal
 use Rattle.log_lines.proofs.move_down.Goals.{then-n-count-via-then-n-count, then-n-count-via-else-n-count+then-n-count-2}
 
@@ -10,20 +10,8 @@ returns-then-n-count c = let a = c.args in
     moved-not a.buf.now a.from a.count
     (elim c.then-n-count.branch [ then-n-count-via-then-n-count w ↦ omega arith | then-n-count-via-else-n-count+then-n-count-2 w ↦ omega arith ])
 
-pub loop-i-init : goal.loop-i-init
-loop-i-init c = (omega arith, moved-start _ _)
-
-pub bounds-buf-from : goal.bounds-buf-from
-bounds-buf-from c = let s = c.loop-i.invariant.1.same in omega arith
-
-pub bounds-buf-i : goal.bounds-buf-i
-bounds-buf-i c = let s = c.loop-i.invariant.1.same in omega arith
-
 pub loop-i-preserved : goal.loop-i-preserved
 loop-i-preserved c = (omega arith, moved-on _ _ _ _ (omega arith) c.loop-i.invariant.1)
-
-pub shape_of-buf : goal.shape_of-buf
-shape_of-buf c = c.loop-i.invariant.1.same
 
 pub returns : goal.returns
 returns c = let a = c.args in

@@ -6,18 +6,15 @@ use Rattle.laws.specs.Tests.{by-order}
 use Rattle.text_fields.specs.Finding.{find-on, find-here, find-past}
 use Rattle.text_fields.proofs.find_slowly.Goals as goal
 
-pub returns-then-bytes-e : goal.returns-then-bytes-e
-returns-then-bytes-e c = let l = c.loop-e in record { value = find-here _ _ l.e (omega arith) c.if-bytes-e.true ∙ l.invariant; lower_bound = (omega arith, omega arith) }
+pub returns-then-bytes-e-clause-value : goal.returns-then-bytes-e-clause-value
+returns-then-bytes-e-clause-value c = let l = c.loop-e in find-here _ _ l.e (omega arith) c.if-bytes-e.true ∙ l.invariant
 
 pub loop-e-preserved : goal.loop-e-preserved
 loop-e-preserved c = let l = c.loop-e in find-on _ _ l.e (omega arith) c.if-bytes-e.false ∙ l.invariant
 
-pub returns : goal.returns
-returns c = let l = c.loop-e in
+pub returns-clause-value : goal.returns-clause-value
+returns-clause-value c = let l = c.loop-e in
     let a = c.args in
-    record {
-      value = by-order a.from (length a.bytes.now)
-          (λ h. let m : c.max.result ≡ l.e = omega arith in m ∙ find-past _ _ l.e (omega arith) ∙ l.invariant)
-          (λ h. let m : c.max.result ≡ a.from = omega arith in m ∙ find-past _ _ a.from h);
-      lower_bound = (omega arith, omega arith);
-    }
+    by-order a.from (length a.bytes.now)
+    (λ h. let m : c.max.result ≡ l.e = omega arith in m ∙ find-past _ _ l.e (omega arith) ∙ l.invariant)
+    (λ h. let m : c.max.result ≡ a.from = omega arith in m ∙ find-past _ _ a.from h)

@@ -2,12 +2,8 @@
 use mathlib.Core.Path.{ap, ◌∙◌}
 use native.Mathlib.Omega.{arith}
 use Rattle.text_numbers.specs.Numbers.{read_number}
-use Rattle.text_number_at.specs.Along.{along-part, along-open, along-read}
+use Rattle.text_number_at.specs.Along.{along-part, along-read}
 use Rattle.text_number_at.proofs.along_slowly.Goals as goal
-
-pub returns-then-bytes-end : goal.returns-then-bytes-end
-returns-then-bytes-end c = let a = c.args in
-    along-open a.bytes.now a.from _ c.field_end-end.ensures.value (omega arith)
 
 pub returns : goal.returns
 returns c = let a = c.args in

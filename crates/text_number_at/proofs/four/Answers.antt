@@ -3,18 +3,10 @@ use mathlib.Core.Path.{sym, ap, ◌∙◌}
 use Prim.Native.Nat.{ℕ}
 use lib.Bits.{bit_xor}
 use borrow.Author.Rules.{rules}
-use Rattle.text_number_at.specs.Four.{read_held, nine-most, held-spelt, held-not}
+use Rattle.text_number_at.specs.Four.{nine-most}
 use Rattle.text_number_at.proofs.four.Goals as goal
 
 pub valued-requires : goal.valued-requires
 valued-requires c = let s = c.args in
     nine-most s.a s.b s.c s.d _ (search rules) (search rules) (search rules) (search rules)
     (ap (λ (y : ℕ). bit_xor y 0x30303030) c.together-x.ensures) (sym c.spells_four.ensures ∙ c.if-spells_four.true)
-
-pub returns-then-spells_four : goal.returns-then-spells_four
-returns-then-spells_four c = held-spelt _ _ (sym c.spells_four.ensures ∙ c.if-spells_four.true) c.valued.ensures
-    ∙ ap (λ (y : ℕ). read_held (bit_xor y 0x30303030)) c.together-x.ensures
-
-pub returns : goal.returns
-returns c = held-not _ (sym c.spells_four.ensures ∙ c.if-spells_four.false)
-    ∙ ap (λ (y : ℕ). read_held (bit_xor y 0x30303030)) c.together-x.ensures

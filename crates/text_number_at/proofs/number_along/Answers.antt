@@ -1,17 +1,8 @@
 -- `number_along` meets its contract: the quick way is right where it is taken.
 use mathlib.Core.Path.{sym, ◌∙◌}
-use native.Mathlib.Omega.{arith}
 use Rattle.text_number_at.specs.NumberAt.{four-read}
-use Rattle.text_number_at.specs.Along.{ended-within, along-quick}
+use Rattle.text_number_at.specs.Along.{along-quick}
 use Rattle.text_number_at.proofs.number_along.Goals as goal
-
-pub four_at-requires : goal.four_at-requires
-four_at-requires c = let a = c.args in
-    omega (arith, ended-within a.bytes.now a.from (sym c.four_ended.ensures ∙ c.if-four_ended.true))
-
-pub overflow_add-result : goal.overflow_add-result
-overflow_add-result c = let a = c.args in
-    omega (arith, ended-within a.bytes.now a.from (sym c.four_ended.ensures ∙ c.if-four_ended.true))
 
 pub returns-in-Some : goal.returns-in-Some
 returns-in-Some c = let a = c.args in

@@ -6,18 +6,15 @@ use Rattle.text_numbers.specs.Signs.{past_minus}
 use Rattle.text_numbers.proofs.past_minus.Goals as goal
 use Rattle.text_numbers.proofs.past_minus.Goals.{else-from-line-via-then-from-line+else-line-from-eq45, else-from-line-via-else-from-line}
 
-pub returns-then-line-from-eq45 : goal.returns-then-line-from-eq45
+pub returns-then-line-from-eq45-clause-value : goal.returns-then-line-from-eq45-clause-value
 unfolding past_minus
-returns-then-line-from-eq45 c = let a = c.args in
-    record { value = rw (lt-ltb a.from (length a.line.now) (omega arith), eq-eqb _ _ c.if-line-from-eq45.true); lower_bound = (omega arith, omega arith) }
+returns-then-line-from-eq45-clause-value c = let a = c.args in
+    rw (lt-ltb a.from (length a.line.now) (omega arith), eq-eqb _ _ c.if-line-from-eq45.true)
 
-pub returns : goal.returns
+pub returns-clause-value : goal.returns-clause-value
 unfolding past_minus
-returns c = let a = c.args in
-    record {
-      value = elim c.else-from-line.branch [
-        | else-from-line-via-then-from-line+else-line-from-eq45 w ↦ rw (lt-ltb a.from (length a.line.now) (omega arith), ne_eqb (get_or a.line.now a.from 0) 45 w.if-line-from-eq45.false)
-        | else-from-line-via-else-from-line w ↦ rw (le-ltb a.from (length a.line.now) (omega arith))
-      ];
-      lower_bound = (omega arith, omega arith);
-    }
+returns-clause-value c = let a = c.args in
+    elim c.else-from-line.branch [
+      | else-from-line-via-then-from-line+else-line-from-eq45 w ↦ rw (lt-ltb a.from (length a.line.now) (omega arith), ne_eqb (get_or a.line.now a.from 0) 45 w.if-line-from-eq45.false)
+      | else-from-line-via-else-from-line w ↦ rw (le-ltb a.from (length a.line.now) (omega arith))
+    ]

@@ -7,9 +7,9 @@ use Rattle.std.proofs.Math.Nat.{pow-succ'}
 use Rattle.text_fields.specs.Spelling.{decimal-digit, decimal-places}
 use Rattle.text_wide.proofs.places.Goals as goal
 
-pub returns-then-v-lt10 : goal.returns-then-v-lt10
-returns-then-v-lt10 c = record { value = sym (ap length (decimal-digit _ (omega arith))); lower_bound = (omega arith, omega arith) }
+pub returns-then-v-lt10-clause-value : goal.returns-then-v-lt10-clause-value
+returns-then-v-lt10-clause-value c = sym (ap length (decimal-digit _ (omega arith)))
 
-pub returns : goal.returns
-returns c = let k = c.ilog10.result in
-    record { value = rw add-one (decimal-places k c.args.v c.ilog10.ensures.power_le (rw (pow-succ' 10 k) c.ilog10.ensures.next_power_gt)); lower_bound = (omega arith, omega arith) }
+pub returns-clause-value : goal.returns-clause-value
+returns-clause-value c = let k = c.ilog10.result in
+    rw add-one (decimal-places k c.args.v c.ilog10.ensures.power_le (rw (pow-succ' 10 k) c.ilog10.ensures.next_power_gt))

@@ -1,6 +1,6 @@
 -- `put_digits` meets its contract
 use Prim.Native.Nat.{ℕ, ◌+◌, ◌-◌, ◌/◌, ◌<◌, ◌≤◌}
-use mathlib.Core.Path.{◌≡◌, refl, ap, ◌∙◌}
+use mathlib.Core.Path.{◌≡◌, ap, ◌∙◌}
 use native.Mathlib.Omega.{arith}
 use lib.ListN.{length, length-set}
 use Rattle.laws.specs.Tests.{by-order}
@@ -15,9 +15,6 @@ ten-least v h = by-order v 10 (λ l. let n : length (decimal v) ≡ 1 = ap lengt
 
 one-digit : (v : ℕ) → length (decimal v) ≡ 1 → v < 10
 one-digit v h = by-order v 10 (λ l. l) (λ l. let n = length-tens v l in let m = decimal-some (v / 10) in absurd (omega arith))
-
-pub loop-i-init : goal.loop-i-init
-loop-i-init c = (refl, omega arith, refl)
 
 pub loop-i-preserved : goal.loop-i-preserved
 loop-i-preserved c = let l = c.loop-i in
