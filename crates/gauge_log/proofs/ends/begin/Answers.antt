@@ -5,7 +5,7 @@ use Rattle.gauge_log.proofs.ends.begin.Goals as goal
 
 pub returns : goal.returns
 returns c = record {
-  verdict_value = (ap (λ (g : Gauged). g.verdict) c.load-g.ensures.value, ap (λ (g : Gauged). g.metered) c.load-g.ensures.value);
+  verdict_value = (ap (λ (g : Gauged). g.verdict) c.load-verdict.ensures.value, ap (λ (g : Gauged). g.metered) c.load-verdict.ensures.value);
   put = c.put_refusal-written.ensures.put;
-  written_in_bounds = (c.put_refusal-written.ensures.upper_bound, c.load-g.ensures.filled);
+  written_in_bounds = c.put_refusal-written.ensures.upper_bound;
 }

@@ -4,4 +4,4 @@ use Rattle.gauge_log.specs.Pass.{next_metered, no_text}
 use Rattle.gauge_log.proofs.pass.pass.Goals as goal
 
 pub returns : goal.returns
-returns c = record { pass = feed-made next_metered no_text 0 _ _ _ _ _ _ _ _ _ _ c.pass_chunk-r.ensures.pass_chunk c.carried-held.ensures.value c.move_down.ensures; filled = c.pass_chunk-r.ensures.filled }
+returns c = feed-made next_metered no_text 0 _ _ _ _ _ _ _ _ _ _ c.pass_chunk-used.ensures c.carried-held.ensures.value c.move_down.ensures
