@@ -1,17 +1,19 @@
 -- `season_sum::figure_in` meets its contract. Assumes nothing.
-use mathlib.Core.Path.{sym, ap, ◌∙◌}
-use native.Mathlib.Omega.{arith}
-use Rattle.season_sum.specs.Reading.{long_of, figure-short, figure-unlike, figure-untabbed, figure-part}
+use mathlib.Core.Path.{sym, ◌∙◌}
+use Rattle.season_sum.specs.Reading.{other-name, no-tab, tabbed}
 use Rattle.season_sum.proofs.figure_in.Goals as goal
 
-pub returns-then-line-n : goal.returns-then-line-n
-returns-then-line-n c = ap long_of (sym (figure-short _ _ c.if-line-n.true))
+pub returns-in_err-rest : goal.returns-in_err-rest
+returns-in_err-rest c = let a = c.args in
+    c.from_residual.ensures ∙ sym (other-name a.name.now a.line.now c.in_err-rest.ensures.cases)
 
-pub returns-then-line-n-eq9 : goal.returns-then-line-n-eq9
-returns-then-line-n-eq9 c = c.long_to.ensures ∙ ap long_of (figure-part _ _ (omega arith) (sym c.starts.ensures ∙ c.if-starts.true) c.if-line-n-eq9.true)
+pub returns-in_err-field : goal.returns-in_err-field
+returns-in_err-field c = let a = c.args in
+    let r = c.in_ok-rest.ensures.cases in
+    c.from_residual-in_err-field.ensures ∙ sym (no-tab a.name.now a.line.now c.in_ok-rest.rest.now r.1 r.0 c.in_err-field.ensures.cases)
 
-pub returns-else-line-n-eq9 : goal.returns-else-line-n-eq9
-returns-else-line-n-eq9 c = ap long_of (sym (figure-untabbed _ _ (omega arith) (sym c.starts.ensures ∙ c.if-starts.true) c.if-line-n-eq9.false))
-
-pub returns-else-starts : goal.returns-else-starts
-returns-else-starts c = ap long_of (sym (figure-unlike _ _ (omega arith) (sym c.starts.ensures ∙ c.if-starts.false)))
+pub returns : goal.returns
+returns c = let a = c.args in
+    let r = c.in_ok-rest.ensures.cases in
+    let f = c.in_ok-field.ensures.cases in
+    rw f.1 at c.number_to.ensures ∙ tabbed a.name.now a.line.now c.in_ok-rest.rest.now r.1 r.0 f.0

@@ -4,7 +4,7 @@ use mathlib.Core.List.{List}
 use Prim.Native.Nat.{ℕ}
 use native.Mathlib.Omega.{arith}
 use lib.ListN.{length-take}
-use Rattle.season_sum.specs.Reading.{long_of, line_value}
+use Rattle.season_sum.specs.Reading.{line_value}
 use Rattle.season_sum.specs.Names.{name-front}
 use Rattle.season_sum.proofs.figure_of.Goals as goal
 
@@ -13,4 +13,4 @@ slice_bounds-figure_in-end c = rw length-take (omega arith)
 
 pub returns : goal.returns
 returns c = let a = c.args in
-    c.figure_in.ensures ∙ ap (λ (n : List ℕ). long_of (line_value n a.line.now)) (name-front _ a.j _ _ refl (omega arith) c.put_row_name-m.ensures.put)
+    c.figure_in.ensures ∙ ap (λ (n : List ℕ). line_value n a.line.now) (name-front _ a.j _ _ refl (omega arith) c.put_row_name-m.ensures.put)
