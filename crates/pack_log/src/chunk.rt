@@ -6,6 +6,7 @@ use log_texts::ROOM;
 use pack::Keeper;
 
 // How far a chunk of log was answered: whether no newline is left, the bytes used and written, and the pack behind them.
+// Kept (no plainer): `done` is no Option, since what was used and written and the pack are there in both cases.
 #[derive(Clone, Copy)]
 pub struct Chunk {
     pub done: bool,
