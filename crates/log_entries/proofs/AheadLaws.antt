@@ -20,7 +20,7 @@ use Rattle.log_entries.specs.declared.Kind.TheVariants.{Offer, Command, Malforme
 use Rattle.log_entries.specs.declared.Entry.{Entry}
 use Rattle.log_entries.specs.declared.Ahead.{Ahead}
 use Rattle.text_number_at.specs.NumberAt.{Found}
-use Rattle.log_entries.specs.Entry.{malformed, command, if_number, read_command, read_sample, read_entry}
+use Rattle.log_entries.specs.Entry.{kind_of, malformed, command, if_number, read_command, read_sample, read_entry}
 use Rattle.log_entries.specs.Left.{left, left-some, left-next}
 use Rattle.log_entries.proofs.Reading.{line-short, line-other, line-letter}
 use Rattle.log_entries.specs.InTurn.{read_numbers, behind, NoCell}
@@ -317,6 +317,6 @@ unfolding read_ahead
 ahead-is bytes from a q =
     by-test (ltb (end_from bytes from) (length bytes))
     (λ t.
-    let r = found-is (read_entry (rest_of bytes from)).kind (end_from bytes from) (read_entry (rest_of bytes from)) a (rw t at q) in
+    let r = found-is (kind_of (read_entry (rest_of bytes from))) (end_from bytes from) (read_entry (rest_of bytes from)) a (rw t at q) in
     (r.0, ltb-true (end_from bytes from) (length bytes) t, r.1))
     (λ t. clash refl (ap is_none (rw t at q)))

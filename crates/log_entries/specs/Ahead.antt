@@ -7,7 +7,7 @@ use Rattle.log_entries.specs.declared.Kind.{Kind}
 use Rattle.log_entries.specs.declared.Kind.TheVariants.{Offer, Command, Malformed}
 use Rattle.log_entries.specs.declared.Entry.{Entry}
 use Rattle.log_entries.specs.declared.Ahead.{Ahead}
-use Rattle.log_entries.specs.Entry.{read_entry}
+use Rattle.log_entries.specs.Entry.{kind_of, read_entry}
 use Rattle.log_entries.specs.InTurn.{behind}
 
 -- What is left of a line from a place on, and where the line ends.
@@ -27,7 +27,7 @@ found_of Command end e = None
 found_of Malformed end e = None
 
 abbrev pub found_as : ℕ → Entry → Option Ahead
-found_as end e = found_of e.kind end e
+found_as end e = found_of (kind_of e) end e
 
 -- The same, if its newline is among the bytes.
 abbrev pub found_in : List ℕ → ℕ → Entry → Option Ahead

@@ -4,12 +4,12 @@ use Rattle.std.specs.Prelude.{ℕ, ◌≡◌, refl, true, false, List, [], ◌�
 use Rattle.text_fields.specs.Quoted.{quoted}
 use Rattle.units.specs.declared.MilliVolts.{MilliVolts}
 use Rattle.sample.specs.Cells.{no_volts}
-use Rattle.sample.specs.None.{no_sample}
 use Rattle.text_fields.specs.Finding.{lacks}
 use Rattle.text_fields.specs.Fields.{fields_of}
 use Rattle.text_numbers.specs.Numbers.{number_to, digits_to, read_signed}
 use Rattle.log_entries.specs.declared.Kind.TheVariants.{Offer, Command, Malformed}
-use Rattle.log_entries.specs.Entry.{malformed, command, offer, read_command, cells_from, second_from, first_from, read_sample, fields_say, read_entry}
+use Rattle.log_entries.specs.declared.Entry.TheVariants as entry
+use Rattle.log_entries.specs.Entry.{malformed, command, offer, kind_of, read_command, cells_from, second_from, first_from, read_sample, fields_say, read_entry}
 use Rattle.log_entries.specs.Left.{left}
 use Rattle.log_entries.specs.InTurn.{cells_of, read_numbers}
 use Rattle.text_numbers.specs.Signs.{with_sign}
@@ -43,25 +43,25 @@ zeros-read = (refl, refl, refl)
 
 -- where each number of an `S` line goes: eleven unlike ones, and no cell behind the eighth
 pub sample-fields : read_entry (quoted "S\t-7\t2981\t2992\t3001\t3002\t3003\t3004\t3005\t3006\t3007\t3008")
-    ≡ record {
-      kind = Offer;
-      command = 0;
-      sample = record {
-        count = 8;
-        cells = mv 3001 ∷ mv 3002 ∷ mv 3003 ∷ mv 3004 ∷ mv 3005 ∷ mv 3006 ∷ mv 3007 ∷ mv 3008 ∷ zeros 2;
-        current = negsuc 6;
-        t1 = record { 0 = 2981 };
-        t2 = record { 0 = 2992 };
-      };
-    }
+    ≡ entry.Offer (record {
+      count = 8;
+      cells = mv 3001 ∷ mv 3002 ∷ mv 3003 ∷ mv 3004 ∷ mv 3005 ∷ mv 3006 ∷ mv 3007 ∷ mv 3008 ∷ zeros 2;
+      current = negsuc 6;
+      t1 = record { 0 = 2981 };
+      t2 = record { 0 = 2992 };
+    })
 unfolding read_entry fields_say read_sample first_from second_from cells_from read_command lacks fields_of number_to digits_to read_signed
 sample-fields = refl
 
 -- what an `F` line and a malformed line say, every field
-pub other-fields : (read_entry (quoted "F\t2") ≡ record { kind = Command; command = 2; sample = no_sample })
-    × (read_entry (quoted "F") ≡ record { kind = Malformed; command = 0; sample = no_sample })
+pub other-fields : (read_entry (quoted "F\t2") ≡ entry.Command 2)
+    × (read_entry (quoted "F") ≡ entry.Malformed)
 unfolding read_entry fields_say read_sample first_from second_from cells_from read_command lacks fields_of number_to digits_to read_signed
 other-fields = (refl, refl)
+
+-- the kinds of the three
+pub kinds : (kind_of (offer (pos 1) 2 3 0 (zeros 10)) ≡ Offer) × (kind_of (command 3) ≡ Command) × (kind_of malformed ≡ Malformed)
+kinds = (refl, refl, refl)
 
 -- any other first field or count of fields: the empty line, `S`, `F`, `f 3`, `F 3 3`, `FF 3`, a trailing tab, `S` with two numbers
 pub fields-wrong : (read_entry [] ≡ malformed)

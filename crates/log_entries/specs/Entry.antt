@@ -3,36 +3,37 @@
 use Rattle.std.specs.Prelude.{ℕ, suc, Bool, false, cond, List, [], ◌∷◌, ltb, eqb, ℤ, length, set, replicate, Option, Some, None}
 use Rattle.units.specs.declared.MilliVolts.{MilliVolts}
 use Rattle.sample.specs.Cells.{no_volts}
-use Rattle.sample.specs.None.{no_sample}
 use Rattle.sample.specs.declared.Sample.{Sample}
 use Rattle.text_fields.specs.Finding.{lacks}
 use Rattle.text_fields.specs.Fields.{fields_of}
 use Rattle.text_numbers.specs.Numbers.{read_number, read_signed}
+use Rattle.log_entries.specs.declared.Kind.{Kind}
 use Rattle.log_entries.specs.declared.Kind.TheVariants.{Offer, Command, Malformed}
 use Rattle.log_entries.specs.declared.Entry.{Entry}
+use Rattle.log_entries.specs.declared.Entry.TheVariants as entry
 
 -- ---- the three kinds of line, as values
 
--- A line that has no sample says the one that stands for none.
 abbrev pub malformed : Entry
-malformed = record { kind = Malformed; command = 0; sample = no_sample }
+malformed = entry.Malformed
 
 abbrev pub command : ℕ → Entry
-command c = record { kind = Command; command = c; sample = no_sample }
+command c = entry.Command c
 
 -- The first count entries of cells are the cells of the line, the first of them cell 1.
 abbrev pub offer : ℤ → ℕ → ℕ → ℕ → List MilliVolts → Entry
 offer current t1 t2 count cells =
-    record {
-      kind = Offer;
-      command = 0;
-      sample = record { count = count; cells = cells; current = current; t1 = record { 0 = t1 }; t2 = record { 0 = t2 } };
-    }
+    entry.Offer (record { count = count; cells = cells; current = current; t1 = record { 0 = t1 }; t2 = record { 0 = t2 } })
 
 -- The line of a sample; where there is none, a malformed line.
 abbrev pub entry_of : Option Sample → Entry
-entry_of (Some s) = record { kind = Offer; command = 0; sample = s }
+entry_of (Some s) = entry.Offer s
 entry_of None = malformed
+
+abbrev pub kind_of : Entry → Kind
+kind_of (entry.Offer s) = Offer
+kind_of (entry.Command c) = Command
+kind_of entry.Malformed = Malformed
 
 -- ---- fields
 

@@ -4,40 +4,42 @@
 
 ghost use Rattle.std.specs.Prelude.{◌≡◌, [], ◌+◌, ◌≤◌, length, Some};
 ghost use Rattle.text_fields.specs.Fields.{fields_of};
-ghost use Rattle.log_entries.specs.Entry.{malformed, entry_of, read_command, read_sample, read_entry};
+ghost use Rattle.log_entries.specs.Entry.{kind_of, entry_of, read_command, read_sample, read_entry};
 ghost use Rattle.log_entries.specs.Left.{left};
 ghost use Rattle.log_entries.specs.InTurn.{read_numbers, behind};
 ghost use Rattle.log_entries.specs.Ahead.{rest_of, end_from, found_in, read_ahead, starts_sample};
 
-use sample::{Sample, no_sample};
+use sample::Sample;
 use text_number_at::{FieldNumber, four_tabbed, number_along, number_at};
 use text_numbers::{past_minus, with_sign};
 use units::{DeciKelvin, MilliVolts};
 
 // What kind of line it is.
-#[derive(Clone, Copy)]
+#[derive(Clone, Copy, Debug, PartialEq, Eq)]
 pub enum Kind {
     Offer,
     Command,
     Malformed,
 }
 
-// A line as a value: the command of an `F` line, the sample of an `S` line; what the line does not have is 0.
-#[derive(Clone, Copy)]
-pub struct Entry {
-    pub kind: Kind,
-    pub command: u16,
-    pub sample: Sample,
+// A line as a value: the sample of an `S` line, the command of an `F` line; any other says nothing.
+#[derive(Clone, Copy, Debug, PartialEq, Eq)]
+pub enum Entry {
+    Offer(Sample),
+    Command(u16),
+    Malformed,
 }
 
-// A malformed line.
-fn no_entry() -> Entry
-    ensures { result ≡ malformed }
-{
-    Entry {
-        kind: Kind::Malformed,
-        command: 0,
-        sample: no_sample(),
+impl Entry {
+    // Of which kind a line is.
+    pub fn kind(self) -> Kind
+        ensures { result ≡ kind_of self }
+    {
+        match self {
+            Entry::Offer(_) => Kind::Offer,
+            Entry::Command(_) => Kind::Command,
+            Entry::Malformed => Kind::Malformed,
+        }
     }
 }
 
@@ -47,31 +49,16 @@ fn read_command(line: &[u8], at: usize) -> Entry
 {
     let n = line.len();
     if n < at {
-        return no_entry();
+        return Entry::Malformed;
     }
     let f = text_fields::field(line, at);
     if f.len() < n - at {
-        return no_entry();
+        return Entry::Malformed;
     }
     let Some(command) = text_numbers::read_number(f) else {
-        return no_entry();
+        return Entry::Malformed;
     };
-    Entry {
-        kind: Kind::Command,
-        command,
-        sample: no_sample(),
-    }
-}
-
-// The line of a sample.
-fn offered(sample: Sample) -> Entry
-    ensures { result ≡ entry_of (Some sample) }
-{
-    Entry {
-        kind: Kind::Offer,
-        command: 0,
-        sample,
-    }
+    Entry::Command(command)
 }
 
 // The sample of an `S` line that has these numbers, and no more: behind the current's the two temperatures and the cells.
@@ -107,18 +94,18 @@ fn read_numbers(line: &[u8], from: usize, below: bool) -> Entry
     // Kept (no plainer): the place moves by what was read.
     while at <= line.len() {
         if 13 <= count {
-            return no_entry();
+            return Entry::Malformed;
         }
         let Some(FieldNumber { number, end }) = number_at(line, at) else {
-            return no_entry();
+            return Entry::Malformed;
         };
         numbers[count] = number;
         count += 1;
         at = end + 1;
     }
     match sampled(below, numbers, count) {
-        Some(sample) => offered(sample),
-        None => no_entry(),
+        Some(sample) => Entry::Offer(sample),
+        None => Entry::Malformed,
     }
 }
 
@@ -136,12 +123,12 @@ pub fn read_entry(line: &[u8]) -> Entry
     ensures { result ≡ read_entry line.now }
 {
     if 128 < line.len() {
-        return no_entry();
+        return Entry::Malformed;
     }
     match line {
         [b'S', b'\t', ..] => read_sample(line, 2),
         [b'F', b'\t', ..] => read_command(line, 2),
-        _ => no_entry(),
+        _ => Entry::Malformed,
     }
 }
 
@@ -176,7 +163,7 @@ fn numbers_ahead(bytes: &[u8], from: usize, below: bool) -> Option<Ahead>
             let sample = sampled(below, numbers, count)?;
             return Some(Ahead {
                 end,
-                entry: offered(sample),
+                entry: Entry::Offer(sample),
             });
         }
         at = end + 1;

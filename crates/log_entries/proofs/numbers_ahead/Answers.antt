@@ -3,7 +3,7 @@ use mathlib.Core.Path.{refl, sym, ap, ◌∙◌}
 use lib.ListN.{length-set}
 use Rattle.text_number_at.specs.Along.{along-value, tabbed-within}
 use Rattle.log_entries.specs.InTurn.{cells_of, behind}
-use Rattle.log_entries.specs.Ahead.{found, found_as}
+use Rattle.log_entries.specs.Ahead.{found_as}
 use Rattle.log_entries.proofs.AheadLaws.{ahead-over, ahead-none, ahead-last, ahead-next, ahead-four}
 use native.Mathlib.Omega.{arith}
 use Rattle.log_entries.proofs.numbers_ahead.Goals as goal
@@ -65,8 +65,7 @@ unfolding behind
 returns-then-bytes-end-eq10 c = let n = c.in_ok-number in
     let l = c.loop-count in
     let a = c.args in
-    ap (found n.field-0.end) c.offered.ensures
-    ∙ ap (found_as n.field-0.end) c.in_ok-sample.ensures
+    ap (found_as n.field-0.end) c.in_ok-sample.ensures
     ∙ ahead-last a.bytes.now l.at a.below l.count l.numbers n.field-0.number n.field-0.end (omega arith) l.invariant.1 l.invariant.2 (sym n.ensures) c.if-bytes-end-eq10.true
     ∙ l.invariant.3
 

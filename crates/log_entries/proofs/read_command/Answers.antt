@@ -9,14 +9,14 @@ use Rattle.log_entries.proofs.read_command.Goals as goal
 
 pub returns-then-n-at : goal.returns-then-n-at
 unfolding read_command
-returns-then-n-at c = c.no_entry.ensures ∙ sym (ap read_command (left-none _ _ c.if-n-at.true))
+returns-then-n-at c = sym (ap read_command (left-none _ _ c.if-n-at.true))
 
 pub returns-then-f-n : goal.returns-then-f-n
-returns-then-f-n c = c.no_entry-then-f-n.ensures ∙ sym (command-over _ _ _ c.field-f.ensures.result_value (omega arith) (omega arith))
+returns-then-f-n c = sym (command-over _ _ _ c.field-f.ensures.result_value (omega arith) (omega arith))
 
 pub returns-in_default : goal.returns-in_default
 unfolding read_command
-returns-in_default c = c.no_entry-in_default.ensures ∙ sym (ap read_command (left-only _ _ _ c.field-f.ensures.result_value (omega arith) (omega arith)) ∙ rw (sym c.read_number.ensures ∙ c.in_default.is))
+returns-in_default c = sym (ap read_command (left-only _ _ _ c.field-f.ensures.result_value (omega arith) (omega arith)) ∙ rw (sym c.read_number.ensures ∙ c.in_default.is))
 
 pub returns : goal.returns
 returns c = sym (ap read_command (left-only _ _ _ c.field-f.ensures.result_value (omega arith) (omega arith)) ∙ command-read _ _ (sym c.read_number.ensures ∙ c.in-Some.is) ∙ sym cc)

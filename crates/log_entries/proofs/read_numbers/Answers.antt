@@ -18,15 +18,13 @@ loop-at-init c = (omega arith, omega arith, refl, (λ h. refl), refl)
 pub returns-then-count-ge13 : goal.returns-then-count-ge13
 returns-then-count-ge13 c = let l = c.loop-at in
     let a = c.args in
-    c.no_entry.ensures
-    ∙ sym (ap (behind a.below l.count l.numbers) (left-next a.line.now l.at _ refl (omega arith)) ∙ behind-over _ _ _ l.count l.numbers c.if-count-ge13.true)
+    sym (ap (behind a.below l.count l.numbers) (left-next a.line.now l.at _ refl (omega arith)) ∙ behind-over _ _ _ l.count l.numbers c.if-count-ge13.true)
     ∙ l.invariant.4
 
 pub returns-in_default : goal.returns-in_default
 returns-in_default c = let l = c.loop-at in
     let a = c.args in
-    c.no_entry-in_default.ensures
-    ∙ sym (ap (behind a.below l.count l.numbers) (left-next a.line.now l.at _ refl (omega arith))
+    sym (ap (behind a.below l.count l.numbers) (left-next a.line.now l.at _ refl (omega arith))
     ∙ behind-none _ _ _ l.count l.numbers (omega arith) (number-at-none a.line.now l.at (sym c.number_at.ensures ∙ c.in_default.is)))
     ∙ l.invariant.4
 
@@ -53,9 +51,9 @@ loop-at-preserved c = let l = c.loop-at in
 pub returns-in-Some-sampled : goal.returns-in-Some-sampled
 returns-in-Some-sampled c = let l = c.loop-at in
     let a = c.args in
-    c.offered.ensures ∙ c.in-Some-sampled.ensures ∙ sym (ap (behind a.below l.count l.numbers) (left-none a.line.now l.at (omega arith))) ∙ l.invariant.4
+    c.in-Some-sampled.ensures ∙ sym (ap (behind a.below l.count l.numbers) (left-none a.line.now l.at (omega arith))) ∙ l.invariant.4
 
 pub returns-in-None : goal.returns-in-None
 returns-in-None c = let l = c.loop-at in
     let a = c.args in
-    c.no_entry-in-None.ensures ∙ c.in-None.ensures ∙ sym (ap (behind a.below l.count l.numbers) (left-none a.line.now l.at (omega arith))) ∙ l.invariant.4
+    c.in-None.ensures ∙ sym (ap (behind a.below l.count l.numbers) (left-none a.line.now l.at (omega arith))) ∙ l.invariant.4
