@@ -150,7 +150,7 @@ unfolding answer_to
 demand-1-reply-refused p = bus.refused-exactly p.rules.n p.sampled
 
 -- A line of the log: 17 exactly if it is malformed, in any pack.
-pub demand-1-line-malformed : (p : Pack) (line : List ℕ) → is_seventeen (tell p line).told ≡ is_malformed (read_entry line).kind
+pub demand-1-line-malformed : (p : Pack) (line : List ℕ) → is_seventeen (tell p line).told ≡ is_malformed (entry.kind_of (read_entry line))
 demand-1-line-malformed = seventeen-exactly
 
 -- "`F` has the command; `S` has current, temperature 1, temperature 2 and the cells": fields that are the texts of numbers in range say these numbers,

@@ -13,10 +13,9 @@ use Rattle.pack_state.specs.declared.Pack.{Pack}
 use Rattle.pack.specs.Answers.{offered, commanded}
 use Rattle.bus.specs.Replied.{Replied}
 use Rattle.bus.specs.Replied as reply
-use Rattle.log_entries.specs.declared.Kind.{Kind}
-use Rattle.log_entries.specs.declared.Kind.TheVariants.{Offer, Command, Malformed}
 use Rattle.log_entries.specs.declared.Entry.{Entry}
-use Rattle.log_entries.specs.Entry.{read_entry}
+use Rattle.log_entries.specs.declared.Entry.TheVariants.{Offer, Command, Malformed}
+use Rattle.log_entries.specs.Entry.{kind_of, read_entry}
 use Rattle.log_answers.specs.Told as told
 use Rattle.log_answers.specs.Tell.{told_of, answered_as, outcome_of, tell}
 
@@ -77,14 +76,14 @@ module _ (p : Pack) (c : ℕ) where
 -- A refused line leaves the pack as it was.
 pub refused-line-untouched : (p : Pack) (line : List ℕ) (k : ℕ) → (tell p line).told ≡ told.Refused k → (tell p line).pack ≡ p
 unfolding tell outcome_of
-refused-line-untouched p line k = by-kind (read_entry line).kind (read_entry line)
+refused-line-untouched p line k = by-entry (read_entry line)
   where
     told-refused : (v : Verdict) (q : Pack) → told_of v q ≡ told.Refused k → ((j w : ℕ) → v ≡ Refused j w → q ≡ p) → q ≡ p
     told-refused (Ok done) q e kept = absurd (let z : true ≡ false = cc in true≢false z)
     told-refused (Err r) q e kept = kept r.number r.word refl
 
-    by-kind : (kind : Kind) (e : Entry) → (outcome_of kind (answered_as kind p e)).told ≡ told.Refused k
-        → (outcome_of kind (answered_as kind p e)).pack ≡ p
-    by-kind Offer e t = told-refused _ _ t (refused-sample-untouched p e.sample)
-    by-kind Command e t = told-refused _ _ t (refused-command-untouched p e.command)
-    by-kind Malformed e t = refl
+    by-entry : (e : Entry) → (outcome_of (kind_of e) (answered_as p e)).told ≡ told.Refused k
+        → (outcome_of (kind_of e) (answered_as p e)).pack ≡ p
+    by-entry (Offer s) t = told-refused _ _ t (refused-sample-untouched p s)
+    by-entry (Command c) t = told-refused _ _ t (refused-command-untouched p c)
+    by-entry Malformed t = refl

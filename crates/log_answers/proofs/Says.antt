@@ -14,10 +14,9 @@ use Rattle.pack.specs.After.{after}
 use Rattle.pack.proofs.After.{after-is}
 use Rattle.pack_shown.specs.Shown.{decision_of}
 use Rattle.pack_shown.specs.Decided.{decision-is}
-use Rattle.log_entries.specs.declared.Kind.{Kind}
-use Rattle.log_entries.specs.declared.Kind.TheVariants.{Offer, Command, Malformed}
 use Rattle.log_entries.specs.declared.Entry.{Entry}
-use Rattle.log_entries.specs.Entry.{read_entry}
+use Rattle.log_entries.specs.declared.Entry.TheVariants.{Offer, Command, Malformed}
+use Rattle.log_entries.specs.Entry.{kind_of, read_entry}
 use Rattle.log_answers.specs.Told.{Decided}
 use Rattle.log_answers.specs.Tell.{told_of, answered_as, outcome_of, tell}
 use Rattle.log_answers.specs.Says.{with_entry, events_with, told_after, says_as, says}
@@ -33,27 +32,27 @@ module _ (page : List ℕ) where
       ap Decided (ap decision_of (after-is page es) ∙ decision-is (page_of page) (past_after page es))
   told-is (Err r) es = refl
 
-  outcome-is : (k : Kind) (es : List Event) (e : Entry)
-      → ((outcome_of k (answered_as k (after page es) e)).told ≡ says_as page k es e)
-      × ((outcome_of k (answered_as k (after page es) e)).pack ≡ after page (with_entry k e es))
+  outcome-is : (es : List Event) (e : Entry)
+      → ((outcome_of (kind_of e) (answered_as (after page es) e)).told ≡ says_as page es e)
+      × ((outcome_of (kind_of e) (answered_as (after page es) e)).pack ≡ after page (with_entry e es))
   unfolding outcome_of offered commanded
-  outcome-is Offer es e = (
-    told-is (sample_verdict (after page es).rules.n e.sample) (offer e.sample ∷ es)
-        ∙ ap (λ (n : ℕ). told_after page (sample_verdict n e.sample) (offer e.sample ∷ es)) (cells-are es),
+  outcome-is es (Offer s) = (
+    told-is (sample_verdict (after page es).rules.n s) (offer s ∷ es)
+        ∙ ap (λ (n : ℕ). told_after page (sample_verdict n s) (offer s ∷ es)) (cells-are es),
     refl,
   )
-  outcome-is Command es e = (
-    told-is (command_verdict e.command) (command e.command ∷ es),
+  outcome-is es (Command c) = (
+    told-is (command_verdict c) (command c ∷ es),
     refl,
   )
-  outcome-is Malformed es e = (refl, refl)
+  outcome-is es Malformed = (refl, refl)
 
   -- A line behind these events is answered with what document 01 says of it,
   pub line-told : (es : List Event) (line : List ℕ) → (tell (after page es) line).told ≡ says page es line
   unfolding tell
-  line-told es line = (outcome-is (read_entry line).kind es (read_entry line)).0
+  line-told es line = (outcome-is es (read_entry line)).0
 
   -- and the pack behind it is the one behind these events and the line's.
   pub line-pack : (es : List Event) (line : List ℕ) → (tell (after page es) line).pack ≡ after page (events_with es line)
   unfolding tell
-  line-pack es line = (outcome-is (read_entry line).kind es (read_entry line)).1
+  line-pack es line = (outcome-is es (read_entry line)).1

@@ -8,10 +8,9 @@ use Rattle.units.specs.Cells.{ten_at_most}
 use Rattle.pack_refusals.specs.Samples.{cells_fit, temperature_fits, exact_count, sample_refusals, sample_verdict, command_refusals, command_verdict}
 use Rattle.pack_state.specs.declared.Pack.{Pack}
 use Rattle.pack.specs.Answers.{offered, commanded}
-use Rattle.log_entries.specs.declared.Kind.{Kind}
-use Rattle.log_entries.specs.declared.Kind.TheVariants.{Offer, Command, Malformed}
 use Rattle.log_entries.specs.declared.Entry.{Entry}
-use Rattle.log_entries.specs.Entry.{read_entry}
+use Rattle.log_entries.specs.declared.Entry.TheVariants.{Offer, Command, Malformed}
+use Rattle.log_entries.specs.Entry.{kind_of, read_entry}
 use Rattle.log_answers.specs.Tell.{told_of, answered_as, outcome_of, tell}
 use Rattle.log_answers.specs.Seventeen.{is_seventeen, is_malformed}
 
@@ -29,13 +28,13 @@ command-never : (c : ℕ) (p : Pack) → is_seventeen (told_of (command_verdict 
 unfolding command_verdict command_refusals
 command-never c p = by-test (leb c 3) (λ a. rw a) (λ a. rw a)
 
-by-kind : (k : Kind) (p : Pack) (e : Entry) → is_seventeen (outcome_of k (answered_as k p e)).told ≡ is_malformed k
+by-entry : (p : Pack) (e : Entry) → is_seventeen (outcome_of (kind_of e) (answered_as p e)).told ≡ is_malformed (kind_of e)
 unfolding outcome_of offered commanded
-by-kind Offer p e = sample-never p.rules.n e.sample _
-by-kind Command p e = command-never e.command _
-by-kind Malformed p e = refl
+by-entry p (Offer s) = sample-never p.rules.n s _
+by-entry p (Command c) = command-never c _
+by-entry p Malformed = refl
 
 -- For every pack and every sequence of bytes.
-pub seventeen-exactly : (p : Pack) (line : List ℕ) → is_seventeen (tell p line).told ≡ is_malformed (read_entry line).kind
+pub seventeen-exactly : (p : Pack) (line : List ℕ) → is_seventeen (tell p line).told ≡ is_malformed (kind_of (read_entry line))
 unfolding tell
-seventeen-exactly p line = by-kind (read_entry line).kind p (read_entry line)
+seventeen-exactly p line = by-entry p (read_entry line)

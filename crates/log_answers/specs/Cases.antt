@@ -34,7 +34,8 @@ unfolding events_behind read_entry fields_say read_sample first_from second_from
 events = refl
 
 -- "The others name word 0": 17 too.
-pub seventeen-names-none : answer_of (answered_as Malformed (fresh_pack worked) (read_entry (quoted "F\t03"))).verdict ≡ answer 17 0
+pub seventeen-names-none : answer_of (answered_as (fresh_pack worked) (read_entry (quoted "F\t03"))).verdict ≡ answer 17 0
+unfolding read_entry fields_say read_sample first_from second_from cells_from read_command lacks fields_of number_to digits_to read_signed
 seventeen-names-none = refl
 
 -- "It gives 17": a malformed line, and the pack behind it as it was

@@ -39,13 +39,13 @@ fn outcome_of(kind: Kind, a: Answered) -> Outcome
 // What a pack answers to a line that was read: a sample is offered, a command is given, and a malformed line is refused with 17 and moves
 // nothing. A pass over a log, which shows no decision, needs no more.
 pub fn answered_by(k: Keeper, e: Entry) -> Answered
-    ensures value { result ≡ answered_as e.kind k e }
-    ensures verdict_value { answer_of result.verdict ≡ given (line_refusals e.kind k e) }
+    ensures value { result ≡ answered_as k e }
+    ensures verdict_value { answer_of result.verdict ≡ given (line_refusals k e) }
 {
-    match e.kind {
-        Kind::Offer => pack::offer(k, e.sample),
-        Kind::Command => pack::command(k, e.command),
-        Kind::Malformed => Answered {
+    match e {
+        Entry::Offer(sample) => pack::offer(k, sample),
+        Entry::Command(command) => pack::command(k, command),
+        Entry::Malformed => Answered {
             verdict: refused(17),
             pack: k,
         },
@@ -56,7 +56,7 @@ pub fn answered_by(k: Keeper, e: Entry) -> Answered
 pub fn tell_entry(k: Keeper, e: Entry) -> Outcome
     ensures { result ≡ tell_entry k e }
 {
-    outcome_of(e.kind, answered_by(k, e))
+    outcome_of(e.kind(), answered_by(k, e))
 }
 
 // What a line does to a pack.

@@ -98,7 +98,7 @@ module _ (text d : List ℕ) (s : Pack) (at w : ℕ) (k : Pack) (o : List ℕ) (
 -- One line more in a pass: the pack answered a to what the line says.
 module _ (text : List ℕ) (s : Pack) (at : ℕ) (k : Pack) (g : cut.Going next_pack no_text 0 text [] s at 0 k []) where
   pub pass-on : (end on : ℕ) → Ended text at end on → (e : Entry) → e ≡ read_entry (take (end - at) (drop at text))
-      → (a : Answered) → a ≡ answered_as e.kind k e → cut.Going next_pack no_text 0 text [] s on 0 a.pack []
+      → (a : Answered) → a ≡ answered_as k e → cut.Going next_pack no_text 0 text [] s on 0 a.pack []
   pass-on end on n e ee a ea =
       cut.going-on next_pack no_text 0 text [] s at 0 k [] g end on n (omega arith) [] a.pack 0 [] (omega arith) refl
       (pack-read k (take (end - at) (drop at text)) e a ee ea) (nothing-put [] 0)
