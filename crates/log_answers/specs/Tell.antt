@@ -8,6 +8,7 @@ use Rattle.refusals.specs.Verdicts as verdict
 use Rattle.pack_refusals.specs.Samples.{sample_refusals, command_refusals}
 use Rattle.pack_state.specs.declared.Pack.{Pack}
 use Rattle.pack.specs.declared.Answered.{Answered}
+use Rattle.pack.specs.Kept.{Kept}
 use Rattle.pack.specs.Answers.{offered, commanded, answered}
 use Rattle.pack_shown.specs.Shown.{decision_of}
 use Rattle.log_entries.specs.declared.Kind.{Kind}
@@ -61,10 +62,16 @@ unfolding tell outcome_of
 tell-overlong p line h = ap (tell_entry p) (overlong line h)
 
 -- The pack's answer a to the line e was told as r.
-pub entry-made : (p : Pack) (e : Entry) (a : Answered) (r : Outcome) → a ≡ answered_as p e → r ≡ outcome_of (kind_of e) a
+pub entry-told : (p : Pack) (e : Entry) (a : Answered) (r : Outcome) → a ≡ answered_as p e → r ≡ outcome_of (kind_of e) a
     → r ≡ tell_entry p e
 unfolding outcome_of
-entry-made p e a r ea er = rw (← ea) er
+entry-told p e a r ea er = rw (← ea) er
+
+-- Where the answer's pack stands for some load and some events, the told one does too.
+pub entry-made : (p : Pack) (e : Entry) (a : Answered) (r : Outcome) → a ≡ answered_as p e → r ≡ outcome_of (kind_of e) a → Kept a.pack
+    → (r ≡ tell_entry p e) × Kept r.pack
+unfolding outcome_of
+entry-made p e a r ea er kept = (entry-told p e a r ea er, rw er kept)
 
 -- The line was read as e, and that was told as r.
 pub tell-read : (p : Pack) (line : List ℕ) (e : Entry) (r : Outcome) → e ≡ read_entry line → r ≡ tell_entry p e → r ≡ tell p line

@@ -1,6 +1,6 @@
 -- `bus_lines::put_words` meets its contract
 use Rattle.bus_lines.specs.Lines.{putting-start, putting-place, putting-on, putting-end, roomed-not}
-use Rattle.std.proofs.Common.{arith, ◌≡◌, ◌+◌}
+use Rattle.std.proofs.Common.{arith}
 use Rattle.bus_lines.proofs.put_words.Goals as goal
 
 pub returns-then-out-lt-ROOM : goal.returns-then-out-lt-ROOM

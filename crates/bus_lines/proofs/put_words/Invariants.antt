@@ -1,5 +1,4 @@
 -- `bus_lines::put_words` meets its contract. The loop keeps: the lines of the first c commands stand in the buffer. Assumes nothing.
-use Rattle.std.proofs.Common.{◌≡◌, length}
 use Rattle.bus_lines.specs.Lines.{word_line, Putting}
 use Rattle.bus_lines.proofs.put_words.Given as goal
 

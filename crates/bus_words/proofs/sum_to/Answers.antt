@@ -1,9 +1,9 @@
 -- `bus_words::sum_to` meets its contract. Assumes nothing.
-use Rattle.std.proofs.Common.{◌≡◌, ℕ, zero, suc, ◌≤◌, List, length, take, get_or, sym, ◌∙◌, ap, add-one, arith, ◌+◌, refl}
+use Rattle.std.proofs.Common.{◌≡◌, ℕ, zero, suc, ◌≤◌, List, length, take, get_or, ◌∙◌, ap, add-one, arith, ◌+◌, refl}
 use Rattle.std.specs.Prelude.{sum_by}
 use Rattle.std.proofs.lemmas.List.Sums.{sum_by_more}
 use Rattle.units.specs.declared.MilliVolts.{MilliVolts}
-use Rattle.units.specs.Cells.{ten_at_most, ten-most}
+use Rattle.units.specs.Cells.{ten-most}
 use Rattle.sample.specs.Cells.{no_volts}
 use Rattle.bus_words.specs.Words.{sum_to}
 use Rattle.bus_words.proofs.sum_to.Goals as goal

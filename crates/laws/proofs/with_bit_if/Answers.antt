@@ -8,6 +8,6 @@ pub returns-else-on : goal.returns-else-on
 unfolding with_bit_if
 returns-else-on c =
     elim c.else-on.branch [
-      else-on-via-then-on+else-i-lt16 w ↦ rw w.if-on.true (sym (with-past c.args.w c.args.i (omega arith)))
-    | else-on-via-else-on w ↦ rw w.if-on.false
+      | else-on-via-then-on+else-i-lt16 w ↦ rw w.if-on.true (sym (with-past c.args.w c.args.i (omega arith)))
+      | else-on-via-else-on w ↦ rw w.if-on.false
     ]

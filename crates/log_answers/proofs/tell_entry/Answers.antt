@@ -1,6 +1,6 @@
 -- `log_answers::tell_entry` meets its contract. Assumes nothing.
-use Rattle.log_answers.specs.Tell.{entry-made}
+use Rattle.log_answers.specs.Tell.{entry-told}
 use Rattle.log_answers.proofs.tell_entry.Goals as goal
 
 pub returns : goal.returns
-returns c = entry-made _ _ _ _ c.answered_by.ensures.value (rw c.kind.ensures at c.outcome_of.ensures)
+returns c = entry-told _ _ _ _ c.answered_by.ensures.value (rw c.kind.ensures at c.outcome_of.ensures)

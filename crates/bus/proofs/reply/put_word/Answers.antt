@@ -1,6 +1,6 @@
 -- `bus::reply::put_word` meets its contract. Assumes nothing.
-use Rattle.std.proofs.Common.{arith, ap, ◌∙◌}
-use Rattle.bus.specs.Replies.{bytes_of, word-sent, word-not}
+use Rattle.std.proofs.Common.{arith}
+use Rattle.bus.specs.Replies.{word-sent, word-not}
 use Rattle.bus.proofs.reply.put_word.Goals as goal
 
 pub returns-then-out-ne3 : goal.returns-then-out-ne3

@@ -1,7 +1,0 @@
--- `rig::keeper_judge_page` meets its contract: it is the judge's verdict as a number. Assumes nothing.
-use mathlib.Core.Path.{ap, ◌∙◌}
-use Rattle.rig.specs.Answer.{numbered}
-use Rattle.rig.proofs.keeper_judge_page.Goals as goal
-
-pub returns : goal.returns
-returns c = c.number_of.ensures ∙ ap numbered c.judge.ensures.0
