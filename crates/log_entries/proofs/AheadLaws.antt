@@ -1,5 +1,5 @@
 -- An `S` line read along from a place of some bytes: what is found is the line that starts there; and the steps of the reader.
--- Assumes None.
+-- Assumes nothing.
 use Prim.Native.Nat.{ℕ, suc, ◌+◌, ◌-◌, ◌<◌, ◌≤◌}
 use Rattle.std.specs.Prelude.{◌≡◌, refl, Bool, ltb, eqb, set, Option, Some, None, is_none, unwrap_or}
 use Rattle.std.proofs.Math.Path.{sym, ap}

@@ -1,5 +1,5 @@
 -- An `S` line read along from a place of some bytes, before its newline was looked for: what is found.
--- Assumes None.
+-- Assumes nothing.
 use Rattle.std.specs.Prelude.{Bool, cond, ◌&&◌, List, ℕ, ◌+◌, ltb, eqb, length, drop, get_or, Option, Some, None}
 use Rattle.text_fields.specs.Finding.{before}
 use Rattle.text_fields.specs.Fields.{fields_of}

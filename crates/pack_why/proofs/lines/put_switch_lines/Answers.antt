@@ -7,4 +7,4 @@ pub put_switch_line-requires : goal.put_switch_line-requires
 put_switch_line-requires c = room-behind 31 31 c.put_switch_line-e.ensures.put c.put_switch_line-e.ensures.s_len_bound (omega (arith, c.requires))
 
 pub returns : goal.returns
-returns c = let both = switches-put _ (omega (arith, c.requires)) (c.put_switch_line-e.ensures.put, c.put_switch_line-e.ensures.s_len_bound) (c.put_switch_line.ensures.put, c.put_switch_line.ensures.s_len_bound) in record { put = both.0; k_len_bound = both.1 }
+returns c = let both = switches-put _ (omega (arith, c.requires)) (c.put_switch_line-e.ensures.put, c.put_switch_line-e.ensures.s_len_bound) (c.put_switch_line.ensures.put, c.put_switch_line.ensures.s_len_bound) in record { put = both.0; p_len_bound = both.1 }

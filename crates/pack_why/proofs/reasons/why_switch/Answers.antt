@@ -4,13 +4,13 @@ use Rattle.pack_why.specs.Steps.{switch-early, switch-not, switch-blocked, switc
 use Rattle.pack_why.proofs.reasons.why_switch.Goals as goal
 
 pub returns-then-first-lt-PROTECTIONS : goal.returns-then-first-lt-PROTECTIONS
-returns-then-first-lt-PROTECTIONS c = rw (← c.k.view_is) (switch-blocked _ _ c.if-p.true _ c.bit_of-bit.ensures (sym c.has_bit.ensures ∙ c.if-has_bit.true) _ c.lowest_blocking-first.ensures c.if-first-lt-PROTECTIONS.true)
+returns-then-first-lt-PROTECTIONS c = switch-blocked _ _ c.if-p.true _ c.bit_of-bit.ensures (sym c.has_bit.ensures ∙ c.if-has_bit.true) _ c.lowest_blocking-first.ensures c.if-first-lt-PROTECTIONS.true
 
 pub returns-then-has_bit : goal.returns-then-has_bit
-returns-then-has_bit c = rw (← c.k.view_is) (switch-on _ _ c.if-p.true _ c.bit_of-bit.ensures (sym c.has_bit.ensures ∙ c.if-has_bit.true) _ c.lowest_blocking-first.ensures c.if-first-lt-PROTECTIONS.false)
+returns-then-has_bit c = switch-on _ _ c.if-p.true _ c.bit_of-bit.ensures (sym c.has_bit.ensures ∙ c.if-has_bit.true) _ c.lowest_blocking-first.ensures c.if-first-lt-PROTECTIONS.false
 
 pub returns-then-p : goal.returns-then-p
-returns-then-p c = rw (← c.k.view_is) (switch-not _ _ c.if-p.true _ c.bit_of-bit.ensures (sym c.has_bit.ensures ∙ c.if-has_bit.false))
+returns-then-p c = switch-not _ _ c.if-p.true _ c.bit_of-bit.ensures (sym c.has_bit.ensures ∙ c.if-has_bit.false)
 
 pub returns : goal.returns
-returns c = rw (← c.k.view_is) (switch-early _ _ c.if-p.false)
+returns c = switch-early _ _ c.if-p.false
