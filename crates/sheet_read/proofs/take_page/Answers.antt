@@ -1,7 +1,8 @@
 -- `sheet_read::take_page` meets its contract. Assumes nothing.
-use mathlib.Core.Path.{refl}
+use mathlib.Core.Path.{refl, sym, ◌∙◌}
 use Rattle.std.proofs.lemmas.Result.{err_from_is_err_and}
 use Rattle.sheet_read.specs.Parts.{taken-other, taken-refused, taken-copied}
+use Rattle.sheet_read.specs.Unjudged.{sized-copied}
 use Rattle.sheet_read.proofs.take_page.Goals as goal
 
 pub returns-then-page-part : goal.returns-then-page-part
@@ -15,4 +16,6 @@ returns-in_err-judge c = let a = c.args in
 
 pub returns : goal.returns
 returns c = let a = c.args in
-    let both = taken-copied a.part.now a.page.now c.if-page-part.false _ c.in_ok-judge.ensures.0 refl in record { value = both.0; page_after = rw c.copy_from_slice.ensures.after both.1 }
+    let both = taken-copied a.part.now a.page.now c.if-page-part.false _ c.in_ok-judge.ensures.0 refl in
+    let put = sized-copied a.part.now a.page.now c.if-page-part.false in
+    record { value = c.put_said.ensures.value ∙ sym put.0 ∙ both.0; page_after = c.put_said.ensures.page_after ∙ sym put.1 ∙ both.1 }
