@@ -16,6 +16,7 @@ pub struct Framed {
 }
 
 // The answer to a command: three bytes stand in the buffer, or it is refused with a number.
+// Kept (promise): the number and no `Refusal` with a word: `verdict-one` says that the number alone determines the answer.
 pub type Replied = Result<(), u8>;
 
 // The three bytes of a word that answer a command.

@@ -182,6 +182,7 @@ impl<'a> Input<'a> {
         ensures err { IsOkUnless result Failed }
     {
         let mut held = 0;
+        // Kept (no plainer): what is held grows by what a read gave.
         while held < buf.len() {
             let n = self.read_on(buf, held)?;
             if n == held {

@@ -146,6 +146,7 @@ fn numbers_ahead(bytes: &[u8], from: usize, below: bool) -> Option<Ahead>
     let mut numbers: [u16; 13] = [0; 13];
     let mut count: usize = 0;
     let mut at = from;
+    // Kept (no plainer): the place moves by what was read, and the line ends where its newline was found.
     loop {
         if 13 <= count {
             return None;

@@ -18,7 +18,7 @@ pub const ROOM: usize = text_writing::ROW;
 // ---- a line
 
 // A number, and the tab or the newline behind it. Both have room.
-// Kept (promise): text_writing has the same for a number of 32 bits, privately; a public one would be a promise more.
+// Kept (no plainer): text_writing has the like in private; a public one would be as long as this, with a contract and two edits more.
 fn put_field(out: &mut [u8], at: usize, v: u8, end: u8) -> usize
     requires { at + length (field_text v end) ≤ length out.old }
     ensures { Put out.old at (field_text v end) result out.new }

@@ -12,6 +12,7 @@ use pack::{Answered, Keeper};
 use refusals::Verdict;
 
 // Where a log starts: what the page judge says, the bytes written, and the pack.
+// Kept (promise): no Result, since `begin` writes, and hands a pack back, for a refused page too.
 #[derive(Clone, Copy)]
 pub struct Begun {
     pub verdict: Verdict,

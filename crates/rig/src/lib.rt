@@ -29,6 +29,7 @@ pub extern "C" fn keeper_check_byte(bytes: &[u8]) -> u32
 }
 
 // The one number that C is answered for a verdict.
+// Kept (C): pack_numbers has the same for its own calls, where the pack stands beside the number; each is what its header says.
 fn number_of(verdict: Verdict) -> u32
     ensures { result ≡ numbered verdict }
 {
