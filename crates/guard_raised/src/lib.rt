@@ -20,6 +20,7 @@ fn is_raised(a: Alarm) -> bool
 }
 
 // Bit p for raised p.
+// Kept (no plainer): the words of bits of three crates (here, who wants, who rests) stay apart: one function of a closure would be as long as the loop.
 pub fn raised_word(ps: [Protection; PROTECTIONS]) -> u16
     ensures { result ≡ raised_word ps }
 {
@@ -46,6 +47,7 @@ pub fn blocks(ps: [Protection; PROTECTIONS], switch: u8) -> bool
 }
 
 // The lowest raised protection; the number past the last one where none is.
+// Kept (promise): no Option, here and below, since `lowest_of`, which the clause and pack_why's definitions cite, says that number.
 pub fn lowest_raised(ps: [Protection; PROTECTIONS]) -> ProtectionNo
     ensures { result ≡ record { 0 = lowest_of (raised_at ps) protections } }
 {

@@ -7,8 +7,6 @@ use Rattle.laws.proofs.with_bit_if.Kinds as with-bit-if-kinds
 use Rattle.laws.proofs.with_bit_if.Reads as with-bit-if
 use Rattle.laws.proofs.next_run.Kinds as next-run-kinds
 use Rattle.laws.proofs.next_run.Reads as next-run
-use Rattle.laws.proofs.wide.Kinds as wide-kinds
-use Rattle.laws.proofs.wide.Reads as wide
 
 has-bit-one : Unique 0 has-bit-kinds.ps has-bit-kinds.r has-bit.Post
 has-bit-one κs a x y s t p q = p ∙ sym q
@@ -18,6 +16,3 @@ with-bit-if-one κs a x y s t p q = p ∙ sym q
 
 next-run-one : Unique 0 next-run-kinds.ps next-run-kinds.r next-run.Post
 next-run-one κs a x y s t p q = p ∙ sym q
-
-wide-one : Unique 0 wide-kinds.ps wide-kinds.r wide.Post
-wide-one κs a x y s t p q = p.0 ∙ sym q.0

@@ -1,9 +1,9 @@
 // Laws with no battery in them, which the other crates share (specs/), the two ways in which code meets a word's
-// bits, a run of samples, counted, and a byte as a wider number.
+// bits, and a run of samples, counted.
 
 #![tactic(auto)]
 
-ghost use Rattle.std.specs.Prelude.{◌≡◌, ◌≤◌};
+ghost use Rattle.std.specs.Prelude.{◌≡◌};
 ghost use Rattle.laws.specs.Bits.{has_bit, with_bit_if};
 ghost use Rattle.laws.specs.Latest.{next_run};
 
@@ -28,11 +28,4 @@ pub fn next_run(counts: bool, run: u8) -> u8
     ensures { result ≡ next_run counts run }
 {
     if counts { run.saturating_add(1) } else { 0 }
-}
-
-// A byte as a wider number, of which it is still known that it is a byte.
-pub fn wide(b: u8) -> u32
-    ensures { (result ≡ b) × (result ≤ 255) }
-{
-    u32::from(b)
 }

@@ -34,6 +34,7 @@ fn none_here(bytes: &[u8], e: usize, wanted: u8) -> bool
 
 // The place of the first `wanted` byte at or behind `from`, or the end where there is none; past the end it is `from` itself. Sixteen bytes
 // at a turn, and the last few one by one.
+// Kept (promise): the end, and no Option, where there is none: `value` says it, and a line's last field ends there.
 pub fn find(bytes: &[u8], from: usize, wanted: u8) -> usize
     ensures value { result ≡ from + length (before wanted (drop from bytes.now)) }
     ensures lower_bound { (from ≤ result) × (result - from ≤ length bytes.now - from) }
