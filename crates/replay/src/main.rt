@@ -40,6 +40,9 @@ fn answer_part(
 
 // Answers the log, of which the first `first` bytes are read, up to its last line: where it answers, the log has ended, no line is left, and
 // what waits has room for its newline. What it could not do it has said.
+// Kept (no plainer): no `Passing` of log_files, since a part's answers are written, which can fail, and may leave lines for the next turn.
+// Kept (proof): the log, its buffer and what waits there are no struct: the borrow checker does not cover a part of a buffer that is lent past a
+// ghost field, which is where the bound of what waits would stand.
 fn answer_lines(
     rt: &HostRuntime,
     log: &mut Input,
