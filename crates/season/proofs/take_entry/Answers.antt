@@ -3,7 +3,7 @@ use Rattle.season.specs.Taking.{take-past, take-counts}
 use Rattle.season.proofs.take_entry.Goals as goal
 
 pub returns-then-s-eq0 : goal.returns-then-s-eq0
-returns-then-s-eq0 c = take-past _ _ c.if-s-eq0.true
+returns-then-s-eq0 c = rw (← c.c.view_is) (take-past _ _ c.if-s-eq0.true)
 
 pub returns : goal.returns
-returns c = take-counts _ _ c.if-s-eq0.false _ c.tell_entry-kind.ensures _ (rw c.k.view_is at c.count_line-figures.ensures)
+returns c = rw (← c.c.view_is, c.pack.view_is) (take-counts _ _ c.if-s-eq0.false _ c.tell_entry-kind.ensures _ c.count_line-figures.ensures)

@@ -1,7 +1,7 @@
 -- What waits is few, since no line is left in it.
 use Rattle.std.proofs.Common.{refl}
 use Rattle.log_lines.specs.Carrying.{carried-little}
-use Rattle.report.proofs.CountingPassing.pass.Goals as goal
+use Rattle.report.proofs.ReadingPassing.pass.Goals as goal
 
 pub returns : goal.returns
 returns c =
