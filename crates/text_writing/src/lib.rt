@@ -5,6 +5,7 @@
 ghost use Rattle.std.specs.Prelude.{◌≡◌, [], ◌∷◌, ◌+◌, ◌≤◌, leb, length};
 ghost use Rattle.text_fields.specs.Decimal.{decimal};
 ghost use Rattle.text_writing.specs.Placing.{Put, written};
+ghost use Rattle.text_writing.specs.Writers.{Puts};
 ghost use Rattle.text_writing.specs.Rows.{row_text, room, roomed, field_text, front_text, back_text};
 
 // Whether `count` bytes have room at `at` in a buffer of `size` bytes.
@@ -179,4 +180,64 @@ pub fn put_row(
         return put_back(out, e, fourth, fifth);
     }
     at
+}
+
+// ---- a writer
+
+// A lent buffer, and the place in it where the next text goes.
+#[derive(Drop)]
+pub struct Writer<'a> {
+    pub out: &'a mut [u8],
+    pub at: usize,
+}
+
+impl<'a> Writer<'a> {
+    // A writer into a buffer, from a place of it on.
+    pub fn new(out: &'a mut [u8], at: usize) -> Writer<'a>
+        ensures same_reference { result.out.ghost_name ≡ out.entry.ghost_name }
+        ensures bytes { result.out.now ≡ out.old }
+        ensures place { result.at ≡ at }
+    {
+        Writer { out, at }
+    }
+
+    // Whether `count` bytes have room.
+    pub fn has_room(&self, count: usize) -> bool
+        ensures { result ≡ leb (self.now.at + count) (length self.now.out.now) }
+    {
+        has_room(self.out.len(), self.at, count)
+    }
+
+    // Puts one byte; without room nothing is written.
+    pub fn put_byte(&mut self, b: u8)
+        ensures { Puts self.old (b ∷ []) self.new }
+    {
+        let out = &mut *self.out;
+        self.at = put_byte(out, self.at, b);
+    }
+
+    // Puts a text; without room nothing is written.
+    pub fn put_bytes(&mut self, text: &[u8])
+        ensures { Puts self.old text.now self.new }
+    {
+        let out = &mut *self.out;
+        self.at = put_bytes(out, self.at, text);
+    }
+
+    // Puts a number as decimal text; without room nothing is written.
+    pub fn put_decimal(&mut self, v: u32)
+        ensures { Puts self.old (decimal v) self.new }
+    {
+        let out = &mut *self.out;
+        self.at = put_decimal(out, self.at, v);
+    }
+
+    // Puts five numbers, parted by tabs and ended by a newline; where the longest such row has no room nothing is written.
+    pub fn put_row(&mut self, first: u32, second: u16, third: u16, fourth: u16, fifth: u16)
+        ensures put { Puts self.old (roomed (length self.old.out.now) self.old.at (row_text first second third fourth fifth)) self.new }
+        ensures fifth_len_bound { length (roomed (length self.old.out.now) self.old.at (row_text first second third fourth fifth)) ≤ room }
+    {
+        let out = &mut *self.out;
+        self.at = put_row(out, self.at, first, second, third, fourth, fifth);
+    }
 }
