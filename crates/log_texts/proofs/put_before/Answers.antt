@@ -5,4 +5,4 @@ use Rattle.log_texts.proofs.put_before.Goals as goal
 
 pub returns-in-Ok : goal.returns-in-Ok
 unfolding header_text line_of
-returns-in-Ok c = rw c.in-Ok.is c.put_bytes.ensures
+returns-in-Ok c = rw c.in-Ok.is c.put_bytes.ensures.put

@@ -5,6 +5,6 @@ use Rattle.log_texts.proofs.put_field.Goals as goal
 
 pub returns : goal.returns
 returns c = record {
-  same = c.put_byte.ensures.same ∙ c.put_decimal.ensures.same;
-  put = put-field c.args.v c.args.end c.requires (rw c.from.ensures at c.put_decimal.ensures.put) c.put_byte.ensures.put;
+  same = c.put_byte.ensures.put.same ∙ c.put_decimal.ensures.put.same;
+  put = put-field c.args.v c.args.end c.requires (rw c.from.ensures at c.put_decimal.ensures.put.put) c.put_byte.ensures.put.put;
 }
