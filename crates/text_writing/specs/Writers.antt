@@ -22,3 +22,7 @@ puts-left f g h p = rw (h, ← f, ← g) p.put
 -- What a writer that began there and put nothing has left.
 pub puts-none : {d e s : List ℕ} {at r : ℕ} → r ≡ at → e ≡ d → Put d at s at d → Put d at s r e
 puts-none g h p = rw (g, h) p
+
+-- The buffer that a writer leaves, whatever calls it came by.
+pub put-left : {d e e' s : List ℕ} {at r : ℕ} → e' ≡ e → Put d at s r e → Put d at s r e'
+put-left h p = rw h p
