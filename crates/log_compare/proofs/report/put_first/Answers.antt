@@ -1,9 +1,13 @@
 -- `log_compare::report::put_first` meets its contract. Assumes nothing.
+use Rattle.std.proofs.Common.{refl}
 use Rattle.log_compare.specs.Report.{first-none, first-some}
 use Rattle.log_compare.proofs.report.put_first.Goals as goal
 
-pub returns-then-line-eq0 : goal.returns-then-line-eq0
-returns-then-line-eq0 c = let both = first-none _ _ c.if-line-eq0.true in record { put = both.0; line_len_bound = both.1 }
+pub returns-then-line-ne0 : goal.returns-then-line-ne0
+returns-then-line-ne0 c = let p = c.put_row.ensures in
+    let both = first-some _ c.if-line-ne0.true (rw c.requires.0 at p.put.put, p.v_in_bounds) in
+    record { put = record { same = p.put.same; put = rw c.requires.0 both.0 }; line_len_bound = both.1 }
 
-pub returns : goal.returns
-returns c = let both = first-some _ c.if-line-eq0.false (c.put_row.ensures.put, c.put_row.ensures.v_in_bounds) in record { put = both.0; line_len_bound = both.1 }
+pub returns-else-line-ne0 : goal.returns-else-line-ne0
+returns-else-line-ne0 c = let both = first-none _ _ c.if-line-ne0.false in
+    record { put = record { same = refl; put = rw c.requires.0 both.0 }; line_len_bound = both.1 }
