@@ -56,9 +56,13 @@ module _ (number : ℕ) (n : number < 256) where
       → Put o at refused_word p e → Put e p (field_text number 10) q g → Put o at (refused_text number) q g
   refused-put h x y = let k = field-byte number 10 n in rw (refused-parts number) (put-then (omega arith) x y)
 
-  pub page-put : (word : ℕ) → word < 256 → {o : List ℕ} {p : ℕ} {e : List ℕ} {q : ℕ} {g : List ℕ} {r : ℕ} {u : List ℕ} → 35 ≤ length o
-      → Put o 0 page_word p e → Put e p (field_text number 9) q g → Put g q (field_text word 10) r u → Put o 0 (page_text number word) r u
-  page-put word w h x y z =
+  pub page-put-at : (word : ℕ) → word < 256 → {o : List ℕ} {at p : ℕ} {e : List ℕ} {q : ℕ} {g : List ℕ} {r : ℕ} {u : List ℕ} → at + 35 ≤ length o
+      → Put o at page_word p e → Put e p (field_text number 9) q g → Put g q (field_text word 10) r u → Put o at (page_text number word) r u
+  page-put-at word w h x y z =
       let k = field-byte number 9 n in
       let l = field-byte word 10 w in
       rw (page-parts number word) (put-then (rw length-append (omega arith)) (put-then (omega arith) x y) z)
+
+  pub page-put : (word : ℕ) → word < 256 → {o : List ℕ} {p : ℕ} {e : List ℕ} {q : ℕ} {g : List ℕ} {r : ℕ} {u : List ℕ} → 35 ≤ length o
+      → Put o 0 page_word p e → Put e p (field_text number 9) q g → Put g q (field_text word 10) r u → Put o 0 (page_text number word) r u
+  page-put word w h x y z = page-put-at word w (omega arith) x y z

@@ -12,8 +12,6 @@ use Rattle.text_writing.proofs.put_digits.Reads as put-digits
 use Rattle.text_writing.proofs.put_digits.Kinds as put-digits-kinds
 use Rattle.text_writing.proofs.put_decimal.Reads as put-decimal
 use Rattle.text_writing.proofs.put_decimal.Kinds as put-decimal-kinds
-use Rattle.text_writing.proofs.put_row.Reads as put-row
-use Rattle.text_writing.proofs.put_row.Kinds as put-row-kinds
 
 put-byte-one : (κs : Lfts 1) (a : Dens κs put-byte-kinds.ps) (x y : (res_t put-byte-kinds.r κs).Denot)
     (s t : AtExit (ended_of 1 put-byte-kinds.ps put-byte-kinds.r) κs)
@@ -35,8 +33,3 @@ put-decimal-one : (κs : Lfts 1) (a : Dens κs put-decimal-kinds.ps) (x y : (res
     (s t : AtExit (ended_of 1 put-decimal-kinds.ps put-decimal-kinds.r) κs)
     → put-decimal.Post κs a x s → put-decimal.Post κs a y t → (x ≡ y) × (s.0.now ≡ t.0.now)
 put-decimal-one κs a x y s t p q = put-one p.0 q.0
-
-put-row-one : (κs : Lfts 1) (a : Dens κs put-row-kinds.ps) (x y : (res_t put-row-kinds.r κs).Denot)
-    (s t : AtExit (ended_of 1 put-row-kinds.ps put-row-kinds.r) κs)
-    → put-row.Post κs a x s → put-row.Post κs a y t → (x ≡ y) × (s.0.now ≡ t.0.now)
-put-row-one κs a x y s t p q = put-one p.0 q.0

@@ -8,3 +8,5 @@ pub mod Putting
 pub mod Rows
 -- Laws: reading what was written gives it back.
 pub mod Back
+-- A writer, and what it puts.
+pub mod Writers

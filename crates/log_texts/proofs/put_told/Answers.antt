@@ -1,17 +1,19 @@
 -- `log_texts::put_told` meets its contract. Assumes nothing.
-use native.Mathlib.Omega.{arith}
+use Rattle.std.proofs.Common.{◌+◌, ◌≤◌, ◌<◌, length, sym, ◌∙◌, rules, leb-true, leb-false}
+use Rattle.text_writing.specs.Writers.{puts-left, puts-none}
 use Rattle.text_writing.specs.Rows.{roomed-short, roomed-made}
 use Rattle.log_texts.proofs.put_told.Goals as goal
+use Rattle.log_texts.proofs.put_told.Goals.{then-has_room, else-has_room}
 
-pub returns-then-out-lt-ROOM : goal.returns-then-out-lt-ROOM
-returns-then-out-lt-ROOM c = let both = roomed-short _ _ _ (omega arith) in record { put = both.0; t_len_bound = both.1 }
-
-pub returns-in-Ok : goal.returns-in-Ok
-returns-in-Ok c =
-    let both = roomed-made _ _ _ _ _ (omega arith) (c.put_decision.ensures.put, c.put_decision.ensures.d_len_bound) in
-    record { put = rw c.in-Ok.is both.0; t_len_bound = rw c.in-Ok.is both.1 }
-
-pub returns-in-Err : goal.returns-in-Err
-returns-in-Err c =
-    let both = roomed-made _ _ _ _ _ (omega arith) (c.put_refused.ensures.put, c.put_refused.ensures.number_len_bound) in
-    record { put = rw c.in-Err.is both.0; t_len_bound = rw c.in-Err.is both.1 }
+pub returns : goal.returns
+returns c = let b = c.new-w.ensures in
+    elim c.if-has_room.branch [
+      | then-has_room w ↦
+          let h : c.args.at + 35 ≤ length c.args.out.now = rw (b.bytes, b.place) at (leb-true _ _ (sym c.has_room.ensures ∙ w.if-has_room.true)) in
+          let both = roomed-made c.args.out.now c.args.at _ _ _ h (puts-left b.bytes b.place (search rules) w.put_answer.ensures.put, w.put_answer.ensures.t_len_bound) in
+          rw w.w-is (record { put = both.0; t_len_bound = both.1 })
+      | else-has_room w ↦
+          let h : length c.args.out.now < c.args.at + 35 = rw (b.bytes, b.place) at (leb-false _ _ (sym c.has_room.ensures ∙ w.if-has_room.false)) in
+          let both = roomed-short c.args.out.now c.args.at _ h in
+          rw w.w-is (record { put = puts-none b.place (search rules) both.0; t_len_bound = both.1 })
+    ]
