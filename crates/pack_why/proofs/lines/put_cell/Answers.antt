@@ -1,9 +1,17 @@
 -- `pack_why::lines::put_cell` meets its contract. Assumes nothing.
+use Rattle.std.proofs.Common.{rules}
+use Rattle.text_writing.specs.Writers.{puts-left}
 use Rattle.pack_why.specs.Lines.{roomed-not, roomed-put}
 use Rattle.pack_why.proofs.lines.put_cell.Goals as goal
 
 pub returns-then-out-lt-REASON : goal.returns-then-out-lt-REASON
 returns-then-out-lt-REASON c = let both = roomed-not _ _ _ c.if-out-lt-REASON.true in record { put = both.0; upper_bound = both.1 }
 
+pub put_cell_reason-requires : goal.put_cell_reason-requires
+put_cell_reason-requires c = let b = c.new-w.ensures in rw (b.bytes, b.place) c.if-out-lt-REASON.false
+
 pub returns : goal.returns
-returns c = let both = (roomed-put 21 _ _ _ _ c.if-out-lt-REASON.false c.put_cell_reason.ensures.why_len_bound c.put_cell_reason.ensures.put) in record { put = rw (← c.why_cell.ensures.0) both.0; upper_bound = both.1 }
+returns c = let b = c.new-w.ensures in
+    let reason = c.put_cell_reason.ensures in
+    let both = roomed-put 21 _ _ _ _ c.if-out-lt-REASON.false reason.why_len_bound (puts-left b.bytes b.place (search rules) reason.put) in
+    record { put = rw (← c.why_cell.ensures.0) both.0; upper_bound = both.1 }
