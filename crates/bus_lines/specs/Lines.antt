@@ -157,6 +157,10 @@ pub line-short : (d : List ℕ) (at : ℕ) (text : List ℕ) → length d < at +
 unfolding roomed_line
 line-short d at text h = rw (lt-ltb (length d) (at + line_room) h) (nothing-put d at, omega arith)
 
+pub line-made : (d : List ℕ) (at : ℕ) (text : List ℕ) (r : ℕ) (e : List ℕ) → at + line_room ≤ length d → Put d at text r e × (length text ≤ line_room)
+    → Put d at (roomed_line (length d) at text) r e × (length (roomed_line (length d) at text) ≤ line_room)
+line-made d at text r e h p = rw (line-roomed (length d) at text h) p
+
 -- The texts of a line put one behind the other.
 module _ {d : List ℕ} {at : ℕ} {p : ℕ} {e : List ℕ} {q : ℕ} {g : List ℕ} where
   pub hex-put : (b : ℕ) → at + 2 ≤ length d → Put d at (hex_digit (b / 16) ∷ []) p e → Put e p (hex_digit (b % 16) ∷ []) q g → Put d at (hex_byte b) q g

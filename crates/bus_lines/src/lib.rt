@@ -4,12 +4,13 @@
 
 ghost use Rattle.std.specs.Prelude.{◌≡◌, ◌∷◌, [], ◌++◌, ◌+◌, ◌<◌, ◌≤◌, length};
 ghost use Rattle.text_writing.specs.Placing.{Put};
+ghost use Rattle.text_writing.specs.Writers.{Puts};
 ghost use Rattle.bus_lines.specs.Lines.{hex_digit, hex_byte, hex_bytes, refused_text, answer_text, line_for, word_line, roomed, roomed_line};
 
 use bus::answer::Replied;
 use bus::reply::reply;
 use pack::Keeper;
-use text_writing::{put_byte, put_bytes, put_decimal};
+use text_writing::Writer;
 
 // The bytes of 256 lines: none has more than 15.
 pub const ROOM: usize = 3840;
@@ -27,54 +28,65 @@ fn digit(v: u8) -> u8
     b'a' - 10 + v
 }
 
-fn put_hex(out: &mut [u8], at: usize, b: u8) -> usize
-    requires { at + 2 ≤ length out.old }
-    ensures { Put out.old at (hex_byte b) result out.new }
+fn put_hex(w: &mut Writer<'_>, b: u8)
+    requires { w.old.at + 2 ≤ length w.old.out.now }
+    ensures { Puts w.old (hex_byte b) w.new }
 {
     let high = digit(b / 16);
     let low = digit(b % 16);
-    let e = put_byte(out, at, high);
-    put_byte(out, e, low)
+    w.put_byte(high);
+    w.put_byte(low);
 }
 
-fn put_three(out: &mut [u8], at: usize, three: [u8; 3]) -> usize
-    requires { at + 6 ≤ length out.old }
-    ensures put { Put out.old at (hex_bytes three) result out.new }
+fn put_three(w: &mut Writer<'_>, three: [u8; 3])
+    requires { w.old.at + 6 ≤ length w.old.out.now }
+    ensures put { Puts w.old (hex_bytes three) w.new }
     ensures three_len_bound { length (hex_bytes three) ≤ 11 }
 {
-    let e = put_hex(out, at, three[0]);
-    let f = put_hex(out, e, three[1]);
-    put_hex(out, f, three[2])
+    put_hex(w, three[0]);
+    put_hex(w, three[1]);
+    put_hex(w, three[2]);
 }
 
-fn put_refused(out: &mut [u8], at: usize, number: u8) -> usize
-    requires { at + 11 ≤ length out.old }
-    ensures put { Put out.old at (refused_text number) result out.new }
+fn put_refused(w: &mut Writer<'_>, number: u8)
+    requires { w.old.at + 11 ≤ length w.old.out.now }
+    ensures put { Puts w.old (refused_text number) w.new }
     ensures number_len_bound { length (refused_text number) ≤ 11 }
 {
-    let e = put_bytes(out, at, b"refused\t");
-    put_decimal(out, e, number as u32)
+    w.put_bytes(b"refused\t");
+    w.put_decimal(u32::from(number));
 }
 
 // What stands behind the command of a line.
-fn put_answer(out: &mut [u8], at: usize, answer: Replied, three: [u8; 3]) -> usize
-    requires { at + 11 ≤ length out.old }
-    ensures put { Put out.old at (answer_text answer three) result out.new }
+fn put_answer(w: &mut Writer<'_>, answer: Replied, three: [u8; 3])
+    requires { w.old.at + 11 ≤ length w.old.out.now }
+    ensures put { Puts w.old (answer_text answer three) w.new }
     ensures three_len_bound { length (answer_text answer three) ≤ 11 }
 {
     match answer {
-        Ok(()) => put_three(out, at, three),
-        Err(number) => put_refused(out, at, number),
+        Ok(()) => put_three(w, three),
+        Err(number) => put_refused(w, number),
     }
 }
 
 // The command of a line, and its tab.
-fn put_command(out: &mut [u8], at: usize, command: u8) -> usize
-    requires { at + 3 ≤ length out.old }
-    ensures { Put out.old at (hex_byte command ++ (9 ∷ [])) result out.new }
+fn put_command(w: &mut Writer<'_>, command: u8)
+    requires { w.old.at + 3 ≤ length w.old.out.now }
+    ensures { Puts w.old (hex_byte command ++ (9 ∷ [])) w.new }
 {
-    let e = put_hex(out, at, command);
-    put_byte(out, e, b'\t')
+    put_hex(w, command);
+    w.put_byte(b'\t');
+}
+
+// The line of a command that was answered so, which has room.
+fn put_answered(w: &mut Writer<'_>, command: u8, answer: Replied, three: [u8; 3])
+    requires { w.old.at + 15 ≤ length w.old.out.now }
+    ensures put { Puts w.old (line_for command answer three) w.new }
+    ensures three_len_bound { length (line_for command answer three) ≤ 15 }
+{
+    put_command(w, command);
+    put_answer(w, answer, three);
+    w.put_byte(b'\n');
 }
 
 // Puts the line of a command that was answered so at `at` and answers the place behind it; where 15 bytes have no room nothing is written and
@@ -83,25 +95,21 @@ pub fn put_reply(out: &mut [u8], at: usize, command: u8, answer: Replied, three:
     ensures put { Put out.old at (roomed_line (length out.old) at (line_for command answer three)) result out.new }
     ensures three_len_bound { length (roomed_line (length out.old) at (line_for command answer three)) ≤ 15 }
 {
-    if out.len() < LINE {
-        return at;
+    let mut w = Writer::new(out, at);
+    if w.has_room(LINE) {
+        put_answered(&mut w, command, answer, three);
     }
-    if out.len() - LINE < at {
-        return at;
-    }
-    let e = put_command(out, at, command);
-    let f = put_answer(out, e, answer, three);
-    put_byte(out, f, b'\n')
+    w.at
 }
 
-fn put_line(out: &mut [u8], at: usize, k: Keeper, command: u8) -> usize
-    requires { at + 15 ≤ length out.old }
-    ensures put { Put out.old at (word_line k command) result out.new }
+fn put_line(w: &mut Writer<'_>, k: Keeper, command: u8)
+    requires { w.old.at + 15 ≤ length w.old.out.now }
+    ensures put { Puts w.old (word_line k command) w.new }
     ensures command_len_bound { length (word_line k command) ≤ 15 }
 {
     let mut three = [0u8; 3];
     let answer = reply(k.pack, command, &mut three);
-    put_reply(out, at, command, answer, three)
+    put_answered(w, command, answer, three);
 }
 
 // Puts the 256 lines at the front of a buffer and answers how many bytes they have; where they have no room nothing is written.
@@ -112,9 +120,9 @@ pub fn put_words(k: Keeper, out: &mut [u8]) -> usize
     if out.len() < ROOM {
         return 0;
     }
-    let mut at = 0;
+    let mut w = Writer::new(out, 0);
     for c in 0..=255 {
-        at = put_line(out, at, k, c);
+        put_line(&mut w, k, c);
     }
-    at
+    w.at
 }

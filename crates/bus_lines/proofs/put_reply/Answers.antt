@@ -1,16 +1,20 @@
 -- `bus_lines::put_reply` meets its contract. Assumes nothing.
-use Rattle.bus_lines.specs.Lines.{command-length, room-behind, line-short, line-put}
-use native.Mathlib.Omega.{arith}
+use Rattle.std.proofs.Common.{◌+◌, ◌≤◌, ◌<◌, length, sym, ◌∙◌, rules, leb-true, leb-false}
+use Rattle.text_writing.specs.Writers.{puts-left, puts-none}
+use Rattle.bus_lines.specs.Lines.{line-short, line-made}
 use Rattle.bus_lines.proofs.put_reply.Goals as goal
-
-pub returns-then-out-lt-LINE : goal.returns-then-out-lt-LINE
-returns-then-out-lt-LINE c = let both = line-short _ _ _ (omega (arith, c.if-out-lt-LINE.true)) in record { put = both.0; three_len_bound = both.1 }
-
-pub returns-then-out-at : goal.returns-then-out-at
-returns-then-out-at c = let both = line-short _ _ _ (omega (arith, c.if-out-at.true, c.if-out-lt-LINE.false)) in record { put = both.0; three_len_bound = both.1 }
-
-pub put_answer-f-requires : goal.put_answer-f-requires
-put_answer-f-requires c = room-behind 3 11 c.put_command-e.ensures (command-length _) (omega (arith, c.if-out-at.false, c.if-out-lt-LINE.false))
+use Rattle.bus_lines.proofs.put_reply.Goals.{then-has_room, else-has_room}
 
 pub returns : goal.returns
-returns c = let both = line-put _ _ _ (omega (arith, c.if-out-at.false, c.if-out-lt-LINE.false)) c.put_answer-f.ensures.three_len_bound c.put_command-e.ensures c.put_answer-f.ensures.put c.put_byte.ensures.put in record { put = both.0; three_len_bound = both.1 }
+returns c = let b = c.new-w.ensures in
+    elim c.if-has_room.branch [
+      | then-has_room w ↦
+          let h : c.args.at + 15 ≤ length c.args.out.now = rw (b.bytes, b.place) at (leb-true _ _ (sym c.has_room.ensures ∙ w.if-has_room.true)) in
+          let p = w.put_answered.ensures in
+          let both = line-made c.args.out.now c.args.at _ _ _ h (puts-left b.bytes b.place (search rules) p.put, p.three_len_bound) in
+          rw w.w-is (record { put = both.0; three_len_bound = both.1 })
+      | else-has_room w ↦
+          let h : length c.args.out.now < c.args.at + 15 = rw (b.bytes, b.place) at (leb-false _ _ (sym c.has_room.ensures ∙ w.if-has_room.false)) in
+          let both = line-short c.args.out.now c.args.at _ h in
+          rw w.w-is (record { put = puts-none b.place (search rules) both.0; three_len_bound = both.1 })
+    ]
