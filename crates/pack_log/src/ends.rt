@@ -10,6 +10,7 @@ ghost use Rattle.log_texts.specs.Room.{Opened};
 
 use pack::{Answered, Keeper};
 use refusals::Verdict;
+use text_writing::Writer;
 
 // Where a log starts: what the page judge says, the bytes written, and the pack.
 // Kept (promise): no Result, since `begin` writes, and hands a pack back, for a refused page too.
@@ -29,7 +30,9 @@ pub fn put_closing(buf: &mut [u8], held: usize) -> usize
     if held == 0 {
         return 0;
     }
-    text_writing::put_byte(buf, held, b'\n')
+    let mut w = Writer::new(buf, held);
+    w.put_byte(b'\n');
+    w.at
 }
 
 // Loads a page, and writes the header, or for a refused page its one line.

@@ -196,35 +196,3 @@ impl<'a> Writer<'a> {
         }
     }
 }
-
-// ---- the same, over a buffer and a place: for the crates that do not keep a writer yet
-
-// Puts one byte at `at` and answers the place behind it; without room nothing is written and the answer is `at`.
-pub fn put_byte(out: &mut [u8], at: usize, b: u8) -> usize
-    ensures put { Put out.old at (b ∷ []) result out.new }
-    ensures upper_bound { result ≤ at + 1 }
-{
-    let mut w = Writer::new(out, at);
-    w.put_byte(b);
-    w.at
-}
-
-// Puts `text` at `at` and answers the place behind it; without room nothing is written and the answer is `at`.
-pub fn put_bytes(out: &mut [u8], at: usize, text: &[u8]) -> usize
-    ensures put { Put out.old at text.now result out.new }
-    ensures upper_bound { result ≤ at + length text.now }
-{
-    let mut w = Writer::new(out, at);
-    w.put_bytes(text);
-    w.at
-}
-
-// Puts the decimal text of `v` at `at` and answers the place behind it; without room nothing is written and the answer is `at`.
-pub fn put_decimal(out: &mut [u8], at: usize, v: u32) -> usize
-    ensures put { Put out.old at (decimal v) result out.new }
-    ensures upper_bound { result ≤ at + 10 }
-{
-    let mut w = Writer::new(out, at);
-    w.put_decimal(v);
-    w.at
-}
