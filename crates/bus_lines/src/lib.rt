@@ -121,7 +121,8 @@ pub fn put_words(k: Keeper, out: &mut [u8]) -> usize
         return 0;
     }
     let mut w = Writer::new(out, 0);
-    for c in 0..=255 {
+    let last = 255;
+    for c in 0..=last {
         put_line(&mut w, k, c);
     }
     w.at

@@ -3,7 +3,7 @@ use Rattle.std.proofs.Common.{◌∙◌, refl, rules, arith}
 use Rattle.text_writing.specs.Writers.{put-left}
 use Rattle.bus_lines.specs.Lines.{putting-start, putting-place, putting-on, putting-end, roomed-not}
 use Rattle.bus_lines.proofs.put_words.Goals as goal
-use Rattle.bus_lines.proofs.put_words.Goals.{else-loop-c-test, then-loop-c-test+else-c-lt255}
+use Rattle.bus_lines.proofs.put_words.Goals.{else-loop-c-test, then-loop-c-test+else-c-last}
 
 pub returns-then-out-lt-ROOM : goal.returns-then-out-lt-ROOM
 returns-then-out-lt-ROOM c = let both = roomed-not _ _ c.if-out-lt-ROOM.true in record { put = both.0; upper_bound = both.1 }
@@ -31,7 +31,7 @@ pub returns : goal.returns
 returns c = let i = c.loop-c.invariant in
     elim c.loop-c-test.branch [
       | else-loop-c-test w ↦ absurd (omega (arith, w.loop-c-test.false))
-      | then-loop-c-test+else-c-lt255 w ↦
+      | then-loop-c-test+else-c-last w ↦
           let p = w.put_line.ensures in
           let on = putting-on i.lines i.room (omega arith) _ _ p.put.put p.command_len_bound in
           let both = rw c.new-w.ensures.bytes at (putting-end _ _ _ _ _ on i.room (omega arith)) in
