@@ -16,15 +16,15 @@ pub loop-i-preserved : goal.loop-i-preserved
 loop-i-preserved c = let i = c.loop-i.invariant in
     elim c.if-unlike_at.branch [
       | then-unlike_at w ↦ let p = w.put_word_line.ensures in record {
-            told = rw (w.w-is, w.n-is) (telling-unlike i.told i.room (omega arith) (sym c.unlike_at.ensures ∙ w.if-unlike_at.true) (p.put.put, p.i_len_bound));
-            room = i.room;
-            same = rw w.w-is (p.put.same ∙ i.same);
-          }
+        told = rw (w.w-is, w.n-is) (telling-unlike i.told i.room (omega arith) (sym c.unlike_at.ensures ∙ w.if-unlike_at.true) (p.put.put, p.i_len_bound));
+        room = i.room;
+        same = rw w.w-is (p.put.same ∙ i.same);
+      }
       | else-unlike_at w ↦ record {
-            told = rw (w.w-is, w.n-is) (telling-alike i.told i.room (omega arith) (sym c.unlike_at.ensures ∙ w.if-unlike_at.false));
-            room = i.room;
-            same = rw w.w-is i.same;
-          }
+        told = rw (w.w-is, w.n-is) (telling-alike i.told i.room (omega arith) (sym c.unlike_at.ensures ∙ w.if-unlike_at.false));
+        room = i.room;
+        same = rw w.w-is i.same;
+      }
     ]
 
 pub put_word_line-requires : goal.put_word_line-requires
