@@ -10,3 +10,5 @@ pub mod Rows
 pub mod Back
 -- A writer, and what it puts.
 pub mod Writers
+-- Laws: how many digits a number of 64 bits has.
+pub mod Places

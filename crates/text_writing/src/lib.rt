@@ -35,8 +35,19 @@ fn places(v: u32) -> usize
     }
 }
 
+// How many digits a number of 64 bits has.
+fn places_wide(v: u64) -> usize
+    ensures value { result ≡ length (decimal v) }
+    ensures lower_bound { (1 ≤ result) × (result ≤ 20) }
+{
+    if v < 10 {
+        return 1;
+    }
+    v.ilog10() as usize + 1
+}
+
 // Puts the `k` digits of `v` at `at`, the last one first.
-pub fn put_digits(out: &mut [u8], at: usize, k: usize, v: u64)
+fn put_digits(out: &mut [u8], at: usize, k: usize, v: u64)
     requires { (k ≡ length (decimal v)) × (1 ≤ k) × (at + k ≤ length out.old) }
     ensures { out.new ≡ written out.old at (decimal v) }
 {
@@ -136,6 +147,19 @@ impl<'a> Writer<'a> {
     {
         if self.has_room(places(v)) {
             self.put_decimal_in(v);
+        }
+    }
+
+    // Puts a number of 64 bits as decimal text; without room nothing is written.
+    pub fn put_wide(&mut self, v: u64)
+        ensures put { Puts self.old (decimal v) self.new }
+        ensures upper_bound { (self.new.at ≤ self.old.at + 20) × (length (decimal v) ≤ 20) }
+    {
+        let k = places_wide(v);
+        if self.has_room(k) {
+            let out = &mut *self.out;
+            put_digits(out, self.at, k, v);
+            self.at += k;
         }
     }
 
