@@ -4,9 +4,10 @@
 
 #![tactic(auto)]
 
-ghost use Rattle.std.specs.Prelude.{◌≡◌, ◌≢◌, true, ◌≤◌, length, Ok, Err, IfOk, IsOkUnless};
+ghost use Rattle.std.specs.Prelude.{◌≡◌, ◌≢◌, ℕ, true, ◌≤◌, length, Ok, Err, IfOk, IsOkUnless};
 ghost use Rattle.std.specs.Process.{exit_status};
 ghost use Rattle.files.specs.declared.Stop.TheVariants.{Failed, Refused};
+ghost use Rattle.files.specs.Statuses.{status_of};
 
 use std::env::{Env, FillError};
 use std::fmt::InlineText;
@@ -19,6 +20,13 @@ use std::{io, str};
 // A loop over a file that may never end is proved to end by a count: 2^64 - 1 turns, more than any file has bytes.
 pub const TURNS: u64 = u64::MAX;
 
+// The status that a program ends with: all was done, something could not be done and was said, or the page is refused.
+pub const DONE: u8 = 0;
+
+pub const FAILED: u8 = 1;
+
+pub const REFUSED: u8 = 3;
+
 // The system's number for text that is no text.
 const NO_TEXT: i32 = 84;
 
@@ -29,12 +37,58 @@ pub enum Stop {
     Refused,
 }
 
-// A file that is open to be read, and its name for what is said of it.
+// What says how a program ends: a status, or whether all was done. A clause sees the status that is said, and what is said where something could
+// not be done.
+pub trait Ending: Copy {
+    ghost said: { Self → ℕ };
+
+    ghost failure: { Self };
+
+    fn status(self) -> u8
+        ensures { result ≡ said self };
+
+    fn failed() -> Self
+        ensures { result ≡ failure };
+}
+
+impl Ending for u8 {
+    ghost said = { λ status. status };
+
+    ghost failure = { 1 };
+
+    fn status(self) -> u8 {
+        self
+    }
+
+    fn failed() -> u8 {
+        FAILED
+    }
+}
+
+impl Ending for Result<(), Stop> {
+    ghost said = { status_of };
+
+    ghost failure = { Err Failed };
+
+    fn status(self) -> u8 {
+        match self {
+            Ok(()) => DONE,
+            Err(Stop::Failed) => FAILED,
+            Err(Stop::Refused) => REFUSED,
+        }
+    }
+
+    fn failed() -> Result<(), Stop> {
+        Err(Stop::Failed)
+    }
+}
+
+// A file that is open to be read, and its name for what is said of it. Whoever opened one by other means makes it of the three.
 #[derive(Drop)]
 pub struct Input<'a> {
-    rt: &'a HostRuntime,
-    name: &'a [u8],
-    file: File,
+    pub rt: &'a HostRuntime,
+    pub name: &'a [u8],
+    pub file: File,
 }
 
 // What waits to be answered: how many bytes of the buffer, and whether the file has ended.
@@ -78,7 +132,7 @@ fn say_name(rt: &HostRuntime, name: &[u8]) {
 }
 
 // Says something of a file.
-fn say(rt: &HostRuntime, name: &[u8], what: &[u8]) {
+pub fn say(rt: &HostRuntime, name: &[u8], what: &[u8]) {
     say_name(rt, name);
     say_text(rt, what);
 }
@@ -99,17 +153,11 @@ fn fail(rt: &HostRuntime, name: &[u8], error: Error) -> Stop
     Stop::Failed
 }
 
-// How a program ends: with the status 0 where all was done, 1 where something could not be done, 3 where the page is refused.
-pub fn end(ended: Result<(), Stop>) -> ExitCode
-    ensures done { ended ≡ Ok tt → exit_status result ≡ 0 }
-    ensures failed { ended ≡ Err Failed → exit_status result ≡ 1 }
-    ensures refused { ended ≡ Err Refused → exit_status result ≡ 3 }
+// How a program ends: with the status that is given, or with 0 where all was done, 1 where something could not be done, 3 where the page is refused.
+pub fn end<E: Ending>(ended: E) -> ExitCode
+    ensures { exit_status result ≡ E.said ended }
 {
-    ExitCode::from(match ended {
-        Ok(()) => 0,
-        Err(Stop::Failed) => 1,
-        Err(Stop::Refused) => 3,
-    })
+    ExitCode::from(ended.status())
 }
 
 // Word `i` of the call, in the buffer: an error where there is none, or where it is longer.
@@ -227,11 +275,13 @@ pub fn write_text(rt: &HostRuntime, text: &[u8]) -> Result<(), Stop>
 }
 
 // Writes the last text to standard output, and answers how the program ends: as is given, where that went well.
-pub fn write_last(rt: &HostRuntime, text: &[u8], ended: Result<(), Stop>) -> Result<(), Stop>
-    ensures { result ≢ Err Failed → result ≡ ended }
+pub fn write_last<E: Ending>(rt: &HostRuntime, text: &[u8], ended: E) -> E
+    ensures { result ≢ E.failure → result ≡ ended }
 {
-    write_text(rt, text)?;
-    ended
+    match write_text(rt, text) {
+        Ok(()) => ended,
+        Err(_) => E::failed(),
+    }
 }
 
 // Opens a page and a log, and reads the page to its end, as far as its buffer goes, and the first bytes of the log. A program writes nothing
