@@ -1,10 +1,20 @@
 -- `pack_numbers::guards_of` meets its contract. Assumes nothing.
-use Rattle.std.proofs.Common.{rules}
-use Rattle.guard.specs.Steps.{no_protection}
-use Rattle.pack_numbers.specs.Numbers.{guard_of, guards_of, no_guard}
-use Rattle.pack_numbers.proofs.Mapped.{mapped}
+use mathlib.Core.Path.{◌≡◌, refl, ◌∙◌}
+use native.Mathlib.Omega.{arith}
+use Rattle.laws.specs.Each.{each_to}
+use Rattle.protections.specs.Table.{protections}
+use Rattle.pack_numbers.specs.Numbers.{guards_to, guards-next, guards-are}
 use Rattle.pack_numbers.proofs.guards_of.Goals as goal
 
+pub loop-i-init : goal.loop-i-init
+unfolding each_to guards_to
+loop-i-init c = (search, refl)
+
+pub loop-i-preserved : goal.loop-i-preserved
+loop-i-preserved c = let l = c.loop-i in
+    (l.invariant.0, guards-next _ _ _ _ _ l.invariant.1 c.from.ensures)
+
 pub returns : goal.returns
-unfolding guards_of
-returns c = mapped no_protection no_guard guard_of _ _ _ c.map.ensures.items.long (λ i h. let called = c.map.ensures.items.at i no_protection no_guard h in search rules)
+returns c = let l = c.loop-i in
+    let e : l.i ≡ protections = omega arith in
+    rw e at l.invariant.1 ∙ guards-are _ _ l.invariant.0
