@@ -22,14 +22,14 @@ pub struct Layout {
 #[derive(Clone, Copy, Debug, PartialEq, Eq)]
 pub enum Kind {
     Mark,
-    // One of words 1 to 8: its least and its greatest number.
-    Setting(u16, u16),
+    // One of words 1 to 8, a number of low..high.
+    Setting { low: u16, high: u16 },
     Reserved,
     // The two levels of a protection.
     Trip(ProtectionNo),
     Release(ProtectionNo),
-    // N, M or switch mask of a protection: its least and its greatest number.
-    Limit(u16, u16),
+    // N, M or switch mask of a protection, a number of low..high.
+    Limit { low: u16, high: u16 },
     Last,
     // No word of the page.
     Outside,
@@ -73,14 +73,20 @@ fn front_kind(i: u8) -> Kind
 {
     match i {
         0 => Kind::Mark,
-        1 => Kind::Setting(2, 10),
-        2 => Kind::Setting(1, 5),
-        3 => Kind::Setting(1, 240),
-        4 => Kind::Setting(0, 6000),
-        5 => Kind::Setting(1, 6000),
-        6 => Kind::Setting(1, 32767),
-        7 => Kind::Setting(0, 6000),
-        8 => Kind::Setting(0, 32767),
+        1 => Kind::Setting { low: 2, high: 10 },
+        2 => Kind::Setting { low: 1, high: 5 },
+        3 => Kind::Setting { low: 1, high: 240 },
+        4 => Kind::Setting { low: 0, high: 6000 },
+        5 => Kind::Setting { low: 1, high: 6000 },
+        6 => Kind::Setting {
+            low: 1,
+            high: 32767,
+        },
+        7 => Kind::Setting { low: 0, high: 6000 },
+        8 => Kind::Setting {
+            low: 0,
+            high: 32767,
+        },
         _ => Kind::Reserved,
     }
 }
@@ -92,9 +98,9 @@ fn part_kind(p: ProtectionNo, f: u8) -> Kind
     match f {
         0 => Kind::Trip(p),
         1 => Kind::Release(p),
-        2 => Kind::Limit(1, 240),
-        3 => Kind::Limit(1, 240),
-        _ => Kind::Limit(0, 3),
+        2 => Kind::Limit { low: 1, high: 240 },
+        3 => Kind::Limit { low: 1, high: 240 },
+        _ => Kind::Limit { low: 0, high: 3 },
     }
 }
 
@@ -155,7 +161,7 @@ fn kind_meets(page: &[u8], kind: Kind, row: u8, i: u8) -> bool
     let x = word_at(page, u16::from(i));
     match kind {
         Kind::Mark => true,
-        Kind::Setting(low, high) => on_row(6, row, within(low, high, x)),
+        Kind::Setting { low, high } => on_row(6, row, within(low, high, x)),
         Kind::Reserved => on_row(5, row, x == 0),
         Kind::Trip(p) => {
             if row == 8 {
@@ -164,7 +170,7 @@ fn kind_meets(page: &[u8], kind: Kind, row: u8, i: u8) -> bool
             on_row(7, row, level_met(p, x))
         }
         Kind::Release(p) => on_row(7, row, level_met(p, x)),
-        Kind::Limit(low, high) => on_row(7, row, within(low, high, x)),
+        Kind::Limit { low, high } => on_row(7, row, within(low, high, x)),
         Kind::Last => on_row(5, row, byte_at(page, 2 * usize::from(i)) == 0),
         Kind::Outside => true,
     }
