@@ -47,23 +47,29 @@ pause() {
 }
 
 # Ends the groups with all that they have started, and waits until they are gone: three seconds, and then they are not asked any more.
-# There is no `--` before a group, since some shells take it for a number. A number that leads no group is a process.
+# There is no `--` before a group, since some shells take it for a number. A number that leads no group is a process that we have started. One that was
+# started a moment ago leads none yet, and may have lost the signal while it still had our traps: who leads no group is told until it does or is gone.
 end_groups() {
-    for group in $groups; do kill -TERM "-$group" 2>/dev/null || kill -TERM "$group" 2>/dev/null; done
+    untold=$groups
     for patience in 1 2 3 4 5 6 7 8 9 10 11 12 13 14 15 16 17 18 19 20 21 22 23 24 25 26 27 28 29 30; do
-        left=''
+        again='' left=''
         for group in $groups; do
-            if kill -0 "-$group" 2>/dev/null && is_left "$group"; then left="$left $group"; fi
-        done
+            is_left "$group" || continue
+            left="$left $group"
+            case " $untold " in *" $group "*) kill -TERM "-$group" || { kill -TERM "$group" && again="$again $group"; } ;; esac
+        done 2>/dev/null
         [ -n "$left" ] || return 0
+        untold=$again
         sleep 0.1
     done
-    for group in $left; do kill -KILL "-$group" 2>/dev/null; done
+    for group in $left; do kill -KILL "-$group" || kill -KILL "$group"; done 2>/dev/null
 }
 
-# Whether a process of a group still runs; one that has ended and that nobody has asked for yet does not.
+# Whether a process of a group still runs, or the one of that number, where we have started it; one that has ended and that nobody has asked for yet
+# does not.
 is_left() { # GROUP
-    [ -n "$(cat /proc/[0-9]*/stat 2>/dev/null | sed 's/.*) //' | awk -v group="$1" '$3 == group && $1 != "Z"')" ]
+    { kill -0 "-$1" || kill -0 "$1"; } 2>/dev/null &&
+        [ -n "$(cat /proc/[0-9]*/stat 2>/dev/null | sed 's/ (.*) / /' | awk -v group="$1" -v us=$$ '$2 != "Z" && ($4 == group || $1 == group && $3 == us)')" ]
 }
 
 # Starts a command beside us, in a group of its own whose number is then in `started`. Its standard input is empty.

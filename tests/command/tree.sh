@@ -97,6 +97,7 @@ group_gone() { # GROUP
 begin() { # COMMAND..
     : >"$CALLS"
     : >"$made/out"
+    : >"$made/err"
     TMPDIR=$made/tmp PATH=$with env --default-signal=INT,QUIT,HUP setsid "$@" >"$made/out" 2>"$made/err" </dev/null &
     begun=$!
 }
