@@ -46,21 +46,29 @@ pause() {
     for group in $groups; do kill -CONT "-$group" 2>/dev/null; done
 }
 
-# Ends the groups with all that they have started, and waits until they are gone: three seconds, and then they are not asked any more.
-# There is no `--` before a group, since some shells take it for a number. A number that leads no group is a process that we have started. One that was
-# started a moment ago leads none yet, and may have lost the signal while it still had our traps: who leads no group is told until it does or is gone.
+# Tells groups to end. There is no `--` before a group, since some shells take it for a number. A number that leads no group is a process, and is then
+# in `untold`: one that was started a moment ago leads none yet, and may have lost the signal while it still had our traps.
+tell_to_end() { # GROUP..
+    untold=''
+    for group; do kill -TERM "-$group" || { kill -TERM "$group" && untold="$untold $group"; }; done 2>/dev/null
+}
+
+# Ends the groups with all that they have started, and waits until they are gone: three seconds, and then they are not asked any more. Who led no group
+# is told again, until it does or is gone.
 end_groups() {
-    untold=$groups
+    # shellcheck disable=SC2086
+    tell_to_end $groups
     for patience in 1 2 3 4 5 6 7 8 9 10 11 12 13 14 15 16 17 18 19 20 21 22 23 24 25 26 27 28 29 30; do
-        again='' left=''
+        left='' again=''
         for group in $groups; do
             is_left "$group" || continue
             left="$left $group"
-            case " $untold " in *" $group "*) kill -TERM "-$group" || { kill -TERM "$group" && again="$again $group"; } ;; esac
-        done 2>/dev/null
+            case " $untold " in *" $group "*) again="$again $group" ;; esac
+        done
         [ -n "$left" ] || return 0
-        untold=$again
         sleep 0.1
+        # shellcheck disable=SC2086
+        tell_to_end $again
     done
     for group in $left; do kill -KILL "-$group" || kill -KILL "$group"; done 2>/dev/null
 }
@@ -69,7 +77,7 @@ end_groups() {
 # does not.
 is_left() { # GROUP
     { kill -0 "-$1" || kill -0 "$1"; } 2>/dev/null &&
-        [ -n "$(cat /proc/[0-9]*/stat 2>/dev/null | sed 's/ (.*) / /' | awk -v group="$1" -v us=$$ '$2 != "Z" && ($4 == group || $1 == group && $3 == us)')" ]
+        [ -n "$(cat /proc/[0-9]*/stat 2>/dev/null | LC_ALL=C sed 's/ (.*) / /' | awk -v group="$1" -v us=$$ '$2 != "Z" && ($4 == group || $1 == group && $3 == us)')" ]
 }
 
 # Starts a command beside us, in a group of its own whose number is then in `started`. Its standard input is empty.

@@ -164,8 +164,10 @@ done
 # How often a file is open, by this test too.
 open_now() { # FILE
     all_open=$(ls -l /proc/[0-9]*/fd 2>/dev/null)
-    printf '%s\n' "$all_open" | grep -c " $1\$"
+    printf '%s\n' "$all_open" | grep -c " $(readlink -f "$1")\$"
 }
+# Whether it is open no more often than it was before, when it was open by this test.
+no_more_open() { [ "$before" -gt 0 ] && [ "$(open_now "$1")" -le "$before" ]; } # FILE
 exec 9<"$tree/crates"
 flock 9
 before=$(open_now "$tree/crates")
@@ -174,14 +176,14 @@ for just in '' ', the signal as it begins to'; do
     begins='grep -q "another build is under way" "$made/err"'
     if [ -n "$just" ]; then
         begins='[ -e "$made/deaf" ]'
-        printf '#!/bin/sh\ntrap "" TERM\n[ "$1" != flock ] || : >"%s"\nsleep 1\ntrap - TERM\nexec "%s" "$@"\n' "$made/deaf" "$(command -v setsid)" >"$made/bin/setsid"
+        printf '#!/bin/sh\n[ "$1" != flock ] || { trap "" TERM; : >"%s"; sleep 1; trap - TERM; }\nexec "%s" "$@"\n' "$made/deaf" "$(command -v setsid)" >"$made/bin/setsid"
         chmod +x "$made/bin/setsid"
     fi
     begin "$tree/keeper" judge "$page"
     soon "$begins"
     kill -TERM "$begun"
     ends_soon
-    holds "15 judge that waits for the lock$just" 'soon "$begins" && interrupted && soon "[ \$(open_now \"\$tree/crates\") -le $before ]" && nothing_behind'
+    holds "15 judge that waits for the lock$just" 'soon "$begins" && interrupted && soon "no_more_open \"\$tree/crates\"" && nothing_behind'
 done
 rm -f "$made/bin/setsid"
 exec 9<&-
@@ -197,11 +199,11 @@ for words in 'replay' 'replay --explain' 'words'; do
     sleep 0.7
     kill -TERM "$begun"
     ends_soon
-    holds "15 $words of a log that does not end, TERM to the one process" 'interrupted && [ ! -s "$made/err" ] && soon "[ \$(open_now \"\$made/slow\") -le $before ]" && nothing_behind'
+    holds "15 $words of a log that does not end, TERM to the one process" 'interrupted && [ ! -s "$made/err" ] && soon "no_more_open \"\$made/slow\"" && nothing_behind'
 done
 begin "$tree/keeper" judge "$made/slow"
 sleep 0.5
 kill -TERM "$begun"
 ends_soon
-holds '15 judge of a page that does not come' 'interrupted && soon "[ \$(open_now \"\$made/slow\") -le $before ]"'
+holds '15 judge of a page that does not come' 'interrupted && soon "no_more_open \"\$made/slow\""'
 exec 7>&-
